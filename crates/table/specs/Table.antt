@@ -1,0 +1,48 @@
+-- What a table says, and which tables are well formed: document 01, "Bytes", the table.
+use mathlib.Core.Path.{_≡_}
+use mathlib.Core.List.{List}
+use mathlib.Core.Bool.{Bool, true}
+use Prim.Native.Nat.{ℕ, _+_, _*_, _/_, _%_, _^_, _<_, _≤_}
+use lib.ListN.{length, getD}
+use Rattle.wire.specs.Choice.{_=?_}
+use Rattle.table.specs.declared.Table.{Table}
+
+-- A set is a number: bit i for member i.
+abbrev pub member : ℕ → ℕ → Bool
+member set i = set / 2 ^ i % 2 =? 1
+
+abbrev pub outputOf : Table → ℕ → ℕ
+outputOf t q = getD (t .output) q 0
+
+abbrev pub nextOf : Table → ℕ → ℕ → ℕ
+nextOf t q i = getD (t .next) (q * t .inputs + i) 0
+
+abbrev pub holdOf : Table → ℕ → ℕ
+holdOf t q = getD (t .hold) q 0
+
+abbrev pub delayedOf : Table → ℕ → ℕ
+delayedOf t q = getD (t .delayed) q 0
+
+-- Input i is delayed in state q.
+abbrev pub delays : Table → ℕ → ℕ → Bool
+delays t q i = member (delayedOf t q) i
+
+-- An array of `size` places of which n are used; the rest are 0.
+pub record Uses (n size : ℕ) (array : List ℕ) : Type 0 where
+  pub places : length array ≡ size
+  pub rest : (k : ℕ) → n ≤ k → getD array k 0 ≡ 0
+
+pub record WellFormed (t : Table) : Type 0 where
+  pub states : (1 ≤ t .states) × (t .states ≤ 32)
+  pub inputs : (1 ≤ t .inputs) × (t .inputs ≤ 32)
+  pub outputs : (1 ≤ t .outputs) × (t .outputs ≤ 32)
+  pub initial : t .initial < t .states
+  pub bound : (1 ≤ t .bound) × (t .bound ≤ 60000)
+  pub output : (q : ℕ) → q < t .states → outputOf t q < t .outputs
+  pub next : (q i : ℕ) → q < t .states → i < t .inputs → nextOf t q i < t .states
+  pub hold : (q : ℕ) → q < t .states → holdOf t q ≤ 3600000
+  pub delayed : (q i : ℕ) → q < t .states → delays t q i ≡ true → i < t .inputs
+  pub output-uses : Uses (t .states) 32 (t .output)
+  pub next-uses : Uses (t .states * t .inputs) 1024 (t .next)
+  pub hold-uses : Uses (t .states) 32 (t .hold)
+  pub delayed-uses : Uses (t .states) 32 (t .delayed)
