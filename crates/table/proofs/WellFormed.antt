@@ -17,10 +17,11 @@ use Rattle.table.specs.declared.Answer.{Answer}
 use Rattle.table.specs.declared.Answer.the-variants.{Passes, BytesAfter}
 use Rattle.table.specs.declared.Counts.{Counts}
 use Rattle.table.specs.declared.Table.{Table}
+use Rattle.table.specs.declared.Checked.{Checked}
 use Rattle.table.specs.Answer.{numberOf, _and-then_}
 use Rattle.table.specs.Entries.{values, firstFrom, zeros, padded}
 use Rattle.table.specs.Check.{badEntry, entriesBelow, rowAnswer, bytesAnswer, wordsAnswer, byteEntry, wordEntry, fieldAnswer}
-use Rattle.table.specs.Check.{countsIn, headAnswer, entriesAnswer, tableAnswer, nextField, holdField, delayedField, tableEnd, tableOf}
+use Rattle.table.specs.Check.{countsIn, headAnswer, entriesAnswer, tableAnswer, nextField, holdField, delayedField, tableEnd, tableOf, checkedAs, checkedOf}
 use Rattle.table.specs.Table.{member, Uses, WellFormed}
 use Rattle.table.proofs.Laws.{told, first-passes, rest-passes, head-stands, HeadStands}
 use Rattle.table.proofs.Values.{none-bad, length-values, getD-values, first-le}
@@ -141,3 +142,10 @@ well-formed s e =
       hold-uses = padded-uses (wordEntry s (holdField c)) (c .states) 32 few;
       delayed-uses = padded-uses (wordEntry s (delayedField c)) (c .states) 32 few;
     }
+
+-- The same for the checked table, as other layers receive it.
+pub checked-well-formed : (s : List ℕ) (c : Checked) → c ≡ checkedOf s → c .answer ≡ Passes → WellFormed (c .table)
+unfolding checkedOf checkedAs
+checked-well-formed s c is p =
+    let e : tableAnswer s ≡ Passes = sym (ap (λ x. x .answer) is) ∙ p in
+    rw (ap (λ x. x .table) is, e) (well-formed s e)

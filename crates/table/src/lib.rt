@@ -2,7 +2,7 @@
 // above reads tables only in this checked form. The fields are checked in file order, as document 01 sets down.
 ghost use mathlib.Core.Path.{_≡_};
 ghost use Prim.Native.Nat.{_+_, _*_, _^_, _<_, _≤_};
-ghost use lib.ListN.{length};
+ghost use lib.ListN.{length, getD};
 ghost use Rattle.wire.specs.Field.{number32At};
 ghost use Rattle.table.specs.Answer.{numberOf, placeOf};
 ghost use Rattle.table.specs.Check.{inRange, countsInRange, headAnswer, countsIn, entriesAnswer, tableOf, tableWith, noTable};
@@ -250,4 +250,13 @@ pub fn check(s: &[u8]) -> Checked
         return refused(head);
     };
     check_entries(s, counts_in(s))
+}
+
+// next(state, input). The rows are lent, since the whole table is too large to pass where this is asked for every record.
+pub fn next_state(next: &[u8; 1024], inputs: u32, state: u32, input: u32) -> u32
+    requires { ⌜ (inputs ≤ 32) × (state < 32) × (input < 32) ⌝ }
+    ensures { λ r. ⌜ r ≡ getD (now (next .entry)) (state * inputs + input) 0 ⌝ }
+{
+    let at = (state * inputs + input) as usize;
+    wide(next[at])
 }

@@ -1,0 +1,4 @@
+pub mod Reading
+pub mod OneMore
+pub mod Running
+pub mod Answering

@@ -1,0 +1,4 @@
+pub mod Records
+pub mod Answer
+pub mod Check
+pub mod Progress
