@@ -1,0 +1,138 @@
+-- A field of entries, written and read: entries of one byte, and entries of four.
+use mathlib.Core.Path.{_≡_, refl, sym, _∙_}
+use mathlib.Core.List.{List, [], _∷_, _++_}
+use mathlib.Core.Bool.{Bool, true, false}
+use Prim.Native.Nat.{ℕ, zero, suc, _+_, _-_, _*_, _<_, _≤_}
+use native.Mathlib.Nat.{not-suc-le-zero}
+use native.Mathlib.Omega.{arith}
+use borrow.Author.Tests.{le-ltb, lt-leb, ltb-true, ltb-false}
+use lib.ListN.{length, getD, take, drop, List·getD-append}
+use lib.Seq.{ext-getD, getD-take, length-take-le, take-add, drop-drop, take-at}
+use Rattle.wire.specs.Choice.{_<?_, _≤?_}
+use Rattle.wire.specs.Field.{byteAt, number32At}
+use Rattle.wire.specs.Encode.{Bytes, field}
+use Rattle.wire.proofs.Laws.{WholeAt, whole-is}
+use Rattle.wire.proofs.Bytes.{byte-written, rest-written, number-written, field-written, byte-read, number-read, field-read}
+use Rattle.table.specs.declared.Answer.the-variants.{Passes}
+use Rattle.table.specs.Entries.{values, firstFrom, zeros, padded}
+use Rattle.table.specs.Check.{fieldAnswer, entriesBelow, rowAnswer, byteEntry, wordEntry, bytesAnswer, wordsAnswer}
+use Rattle.table.specs.Table.{Uses}
+use Rattle.table.specs.Encode.{words}
+use Rattle.table.proofs.Laws.{stands, goes-on}
+use Rattle.table.proofs.Values.{length-values}
+use Rattle.table.proofs.Rows.{row-stands}
+use Rattle.table.proofs.WellFormed.{getD-padded, padded-uses}
+
+-- ---- Entries in bytes
+
+length-words : (ws : List ℕ) → length (words ws) ≡ 4 * length ws
+unfolding words
+length-words [] = refl
+length-words (w ∷ ws) = omega (arith, length-words ws)
+
+words-append : (vs ws : List ℕ) → words (vs ++ ws) ≡ words vs ++ words ws
+unfolding words
+words-append [] ws = refl
+words-append (v ∷ vs) ws = rw (words-append vs ws)
+
+word-written : (s rest ws : List ℕ) (at : ℕ) → drop at s ≡ words ws ++ rest → (k : ℕ) → k < length ws → number32At s (at + 4 * k) ≡ getD ws k 0
+unfolding words
+word-written s rest [] at there k h = absurd (not-suc-le-zero h)
+word-written s rest (w ∷ ws) at there zero h = let z : at + 0 ≡ at = omega arith in rw z (number-written s (words ws ++ rest) at w there)
+word-written s rest (w ∷ ws) at there (suc k) h =
+    let z : at + 4 * suc k ≡ at + 4 + 4 * k = omega arith in
+    rw z (word-written s rest ws (at + 4) (rest-written s _ at there 4) k (omega arith))
+
+module _ (s : List ℕ) (at : ℕ) where
+  pub bytes-read : (n : ℕ) → at + n ≤ length s → take n (drop at s) ≡ values (λ k. byteAt s (at + k)) n
+  unfolding values
+  bytes-read zero h = refl
+  bytes-read (suc n) h = rw (byte-read s at n (omega arith), bytes-read n (omega arith))
+
+  words-read : Bytes s → (n : ℕ) → at + 4 * n ≤ length s → take (4 * n) (drop at s) ≡ words (values (λ k. number32At s (at + 4 * k)) n)
+  unfolding values words
+  words-read bytes zero h = refl
+  words-read bytes (suc n) h =
+      let z : 4 * suc n ≡ 4 * n + 4 = omega arith in
+      rw (z, take-add (4 * n) 4 (drop at s), drop-drop, number-read s bytes (at + 4 * n) (omega arith), words-read bytes n (omega arith), words-append)
+
+-- ---- A row that was written
+
+-- The field stands whole; its n entries are those at the front of the array, and after it comes the rest.
+pub record RowWritten (s rest array : List ℕ) (at tag size n : ℕ) (entry : ℕ → ℕ) : Type 0 where
+  pub whole : WholeAt s at tag size
+  pub entries : (k : ℕ) → k < n → entry k ≡ getD array k 0
+  pub ends : drop (at + 3 + size) s ≡ rest
+
+module _ (s rest array : List ℕ) (at tag n : ℕ) (room : n ≤ length array) where
+  pub bytes-written : n < 65536 → drop at s ≡ field tag (take n array) ++ rest → RowWritten s rest array at tag n n (byteEntry s at)
+  bytes-written short there =
+      let long : length (take n array) ≡ n = length-take-le n array room in
+      let f = field-written s rest (take n array) at tag n long short there in
+      record {
+        whole = f .whole;
+        entries = λ k h.
+            byte-written s _ (at + 3) (f .holds) (at + 3 + k) k refl
+            ∙ List·getD-append (take n array) rest 0 k (rw long h)
+            ∙ getD-take n array k 0 h;
+        ends = f .ends;
+      }
+
+  pub words-written : 4 * n < 65536 → drop at s ≡ field tag (words (take n array)) ++ rest → RowWritten s rest array at tag (4 * n) n (wordEntry s at)
+  words-written short there =
+      let long : length (take n array) ≡ n = length-take-le n array room in
+      let f = field-written s rest (words (take n array)) at tag (4 * n) (rw length-words (rw long)) short there in
+      record {
+        whole = f .whole;
+        entries = λ k h. word-written s rest (take n array) (at + 3) (f .holds) k (rw long h) ∙ getD-take n array k 0 h;
+        ends = f .ends;
+      }
+
+pub field-passes : (s : List ℕ) (at tag size : ℕ) → WholeAt s at tag size → fieldAnswer s at tag size ≡ Passes
+field-passes s at tag size whole = sym (stands s at tag size _ (whole-is s at tag size whole) tag size refl refl refl)
+
+-- A search that finds nothing.
+first-past : (bad : ℕ → Bool) (n i : ℕ) → ((k : ℕ) → k < i + n → bad k ≡ false) → firstFrom bad n i ≡ i + n
+unfolding firstFrom
+first-past bad zero i h = omega arith
+first-past bad (suc n) i h =
+    let past : firstFrom bad n (i + 1) ≡ (i + 1) + n = first-past bad n (i + 1) (λ k l. h k (omega arith)) in
+    rw (h i (omega arith)) (omega arith)
+
+same-array : (n size : ℕ) (a b : List ℕ) → Uses n size a → Uses n size b → ((k : ℕ) → k < n → getD a k 0 ≡ getD b k 0) → a ≡ b
+same-array n size a b in-a in-b same = ext-getD 0 a b (in-a .places ∙ sym (in-b .places)) (λ k l. each k (k <? n) refl)
+  where
+    each : (k : ℕ) (t : Bool) → (k <? n) ≡ t → getD a k 0 ≡ getD b k 0
+    each k true e = same k (ltb-true k n e)
+    each k false e = in-a .rest k (ltb-false k n e) ∙ sym (in-b .rest k (ltb-false k n e))
+
+module _ {s rest array : List ℕ} {at tag size n : ℕ} {entry : ℕ → ℕ} (row : RowWritten s rest array at tag size n entry) where
+  pub row-passes : (place : ℕ → ℕ) (limit : ℕ) → ((k : ℕ) → k < n → getD array k 0 < limit) → rowAnswer s at tag size place entry n limit ≡ Passes
+  unfolding rowAnswer entriesBelow
+  row-passes place limit below =
+      let none : firstFrom (λ k. limit ≤? entry k) n 0 ≡ 0 + n =
+      first-past _ n 0 (λ k l. let h : k < n = omega arith in lt-leb limit (entry k) (rw (row .entries k h) (below k h)))
+      in
+      rw (← goes-on (fieldAnswer s at tag size) _ (field-passes s at tag size (row .whole)), none, le-ltb (0 + n) n (omega arith))
+
+  pub row-kept : (places : ℕ) → n ≤ places → Uses n places array → padded places (values entry n) ≡ array
+  row-kept places fits uses =
+      same-array n places _ array (padded-uses entry n places fits) uses (λ k h. getD-padded entry n places fits k h ∙ row .entries k h)
+
+-- ---- A row that is read
+
+front : (entry : ℕ → ℕ) (n places : ℕ) → take n (padded places (values entry n)) ≡ values entry n
+front entry n places = take-at (values entry n) (zeros (places - length (values entry n))) n (length-values entry n)
+
+module _ (s : List ℕ) (bytes : Bytes s) (at tag n limit places : ℕ) where
+  pub byte-row-read : bytesAnswer s at tag n limit ≡ Passes →
+      drop at s ≡ field tag (take n (padded places (values (byteEntry s at) n))) ++ drop (at + 3 + n) s
+  byte-row-read passes =
+      let whole = row-stands s at tag n _ (byteEntry s at) n limit passes in
+      rw (front (byteEntry s at) n places, ← bytes-read s (at + 3) n (whole .fits)) (field-read s bytes at tag n whole)
+
+  pub word-row-read : wordsAnswer s at tag n limit ≡ Passes →
+      drop at s ≡ field tag (words (take n (padded places (values (wordEntry s at) n)))) ++ drop (at + 3 + 4 * n) s
+  word-row-read passes =
+      let whole = row-stands s at tag (4 * n) _ (wordEntry s at) n limit passes in
+      rw (front (wordEntry s at) n places, ← words-read s (at + 3) bytes n (whole .fits)) (field-read s bytes at tag (4 * n) whole)
