@@ -1,0 +1,4 @@
+pub mod Stimulus
+pub mod Buffers
+pub mod OneMore
+pub mod Producing

@@ -1,0 +1,4 @@
+pub mod Answer
+pub mod Events
+pub mod Run
+pub mod Filling
