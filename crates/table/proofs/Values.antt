@@ -1,5 +1,5 @@
 -- Laws of a search from the front, and of a list filled from the front, for any test and any entries.
-use mathlib.Core.Path.{_≡_, refl, sym, ap, _∙_}
+use mathlib.Core.Path.{_≡_, refl}
 use mathlib.Core.List.{List, [], _∷_, _++_, append-assoc}
 use mathlib.Core.Bool.{Bool, true, false}
 use Prim.Native.Nat.{ℕ, zero, suc, _+_, _-_, _<_, _≤_}
@@ -35,22 +35,36 @@ first-le bad (suc n) i = either (bad i) (first-le bad n (i + 1))
     either true h = omega arith
     either false h = omega arith
 
--- A search that found nothing.
-passed-over : (b : Bool) (i r n : ℕ) → (if b then i else r) ≡ n → i < n → b ≡ false
-passed-over true i r n e h = absurd (let z : ⊥ = omega arith in z)
-passed-over false i r n e h = refl
+-- What the search passes over is good.
+passed-over : (b : Bool) (i r : ℕ) → i < (if b then i else r) → b ≡ false
+passed-over true i r h = absurd (let z : ⊥ = omega arith in z)
+passed-over false i r h = refl
 
-pub none-bad : (bad : ℕ → Bool) (n i : ℕ) → firstFrom bad n i ≡ i + n → (k : ℕ) → k < n → bad (i + k) ≡ false
+pub before-first : (bad : ℕ → Bool) (n i k : ℕ) → i + k < firstFrom bad n i → bad (i + k) ≡ false
 unfolding firstFrom
-none-bad bad zero i e k h = absurd (not-suc-le-zero h)
-none-bad bad (suc n) i e zero h =
+before-first bad zero i k h = absurd (let z : ⊥ = omega arith in z)
+before-first bad (suc n) i zero h =
     let z : i + 0 ≡ i = omega arith in
-    rw z (passed-over (bad i) i (firstFrom bad n (i + 1)) (i + suc n) e (omega arith))
-none-bad bad (suc n) i e (suc k) h =
-    let b : bad i ≡ false = passed-over (bad i) i (firstFrom bad n (i + 1)) (i + suc n) e (omega arith) in
+    rw z (passed-over (bad i) i (firstFrom bad n (i + 1)) (omega arith))
+before-first bad (suc n) i (suc k) h =
+    let b : bad i ≡ false = passed-over (bad i) i (firstFrom bad n (i + 1)) (omega arith) in
     let z : i + suc k ≡ (i + 1) + k = omega arith in
-    let y : i + suc n ≡ (i + 1) + n = omega arith in
-    rw z (none-bad bad n (i + 1) ((rw b at e) ∙ y) k (omega arith))
+    rw z (before-first bad n (i + 1) k (rw (z, b) at h))
+
+-- A search that found nothing.
+pub none-bad : (bad : ℕ → Bool) (n i : ℕ) → firstFrom bad n i ≡ i + n → (k : ℕ) → k < n → bad (i + k) ≡ false
+none-bad bad n i e k h = before-first bad n i k (omega arith)
+
+-- What the search finds is bad.
+pub found-bad : (bad : ℕ → Bool) (n i : ℕ) → firstFrom bad n i < i + n → bad (firstFrom bad n i) ≡ true
+unfolding firstFrom
+found-bad bad zero i h = absurd (let z : ⊥ = omega arith in z)
+found-bad bad (suc n) i h = go (bad i) refl h (found-bad bad n (i + 1))
+  where
+    go : (b : Bool) → bad i ≡ b → (if b then i else firstFrom bad n (i + 1)) < i + suc n →
+        (firstFrom bad n (i + 1) < (i + 1) + n → bad (firstFrom bad n (i + 1)) ≡ true) → bad (if b then i else firstFrom bad n (i + 1)) ≡ true
+    go true e l r = e
+    go false e l r = r (omega arith)
 
 module _ (f : ℕ → ℕ) where
   pub length-values : (n : ℕ) → length (values f n) ≡ n

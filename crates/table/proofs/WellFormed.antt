@@ -2,17 +2,17 @@
 use mathlib.Core.Path.{_≡_, refl, sym, ap, _∙_}
 use mathlib.Core.List.{List, [], _++_}
 use mathlib.Core.Bool.{Bool, true, false}
-use Prim.Native.Nat.{ℕ, zero, suc, _+_, _-_, _*_, _/_, _%_, _^_, _<_, _≤_}
-use native.Mathlib.Nat.{lt-of-lt-of-le, mul-le-mul, div-eq-of-lt}
+use Prim.Native.Nat.{ℕ, zero, suc, _+_, _-_, _*_, _^_, _<_, _≤_}
+use native.Mathlib.Nat.{mul-le-mul}
 use native.Mathlib.Omega.{arith}
-use borrow.Author.Tests.{leb-true, leb-false, ltb-false}
+use borrow.Author.Tests.{leb-false, ltb-false}
 use lib.Arith.{digits-lt}
-use lib.Dec.{ltb, leb, eqb}
+use lib.Dec.{ltb, eqb}
 use lib.ListN.{length, getD, length-append, length-replicate, List·getD-append, getD-replicate, List·getD-eq-default}
-use lib.Pow.{pow-mono}
 use lib.Seq.{getD-append-add}
 use Rattle.wire.specs.Choice.{_<?_, _≤?_, if_then_else_}
 use Rattle.wire.proofs.Choice.{never}
+use Rattle.sets.proofs.Members.{member-below}
 use Rattle.table.specs.declared.Answer.{Answer}
 use Rattle.table.specs.declared.Answer.the-variants.{Passes, BytesAfter}
 use Rattle.table.specs.declared.Counts.{Counts}
@@ -22,7 +22,7 @@ use Rattle.table.specs.Answer.{numberOf, _and-then_}
 use Rattle.table.specs.Entries.{values, firstFrom, zeros, padded}
 use Rattle.table.specs.Check.{badEntry, entriesBelow, rowAnswer, bytesAnswer, wordsAnswer, byteEntry, wordEntry, fieldAnswer}
 use Rattle.table.specs.Check.{countsIn, headAnswer, entriesAnswer, tableAnswer, nextField, holdField, delayedField, tableEnd, tableOf, checkedAs, checkedOf}
-use Rattle.table.specs.Table.{member, Uses, WellFormed}
+use Rattle.table.specs.Table.{Uses, WellFormed}
 use Rattle.table.proofs.Laws.{told, first-passes, rest-passes, head-stands, HeadStands}
 use Rattle.table.proofs.Values.{none-bad, length-values, getD-values, first-le}
 use Rattle.table.proofs.Rows.{bad-refuses}
@@ -61,18 +61,6 @@ module _ (f : ℕ → ℕ) (n size : ℕ) (fits : n ≤ size) where
       past k h =
           let e : k ≡ length (values f n) + (k - n) = rw length-values (omega arith) in
           rw e (getD-append-add (values f n) (zeros (size - length (values f n))) (k - n) 0 ∙ getD-zeros (size - length (values f n)) (k - n))
-
--- ---- Sets
-
--- A set that is below 2 ^ n has no member from n on.
-pub member-below : (set n i : ℕ) → set < 2 ^ n → member set i ≡ true → i < n
-member-below set n i h m = go (leb n i) refl
-  where
-    go : (b : Bool) → leb n i ≡ b → i < n
-    go true e =
-        let none : set / 2 ^ i ≡ 0 = div-eq-of-lt (lt-of-lt-of-le h (pow-mono (leb-true n i e))) in
-        never (rw none at m)
-    go false e = leb-false n i e
 
 -- ---- The table
 

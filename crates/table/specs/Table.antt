@@ -2,14 +2,10 @@
 use mathlib.Core.Path.{_≡_}
 use mathlib.Core.List.{List}
 use mathlib.Core.Bool.{Bool, true}
-use Prim.Native.Nat.{ℕ, _+_, _*_, _/_, _%_, _^_, _<_, _≤_}
+use Prim.Native.Nat.{ℕ, _+_, _*_, _<_, _≤_}
 use lib.ListN.{length, getD}
-use Rattle.wire.specs.Choice.{_=?_}
+pub use Rattle.sets.specs.Sets.{member}
 use Rattle.table.specs.declared.Table.{Table}
-
--- A set is a number: bit i for member i.
-abbrev pub member : ℕ → ℕ → Bool
-member set i = set / 2 ^ i % 2 =? 1
 
 abbrev pub outputOf : Table → ℕ → ℕ
 outputOf t q = getD (t .output) q 0

@@ -1,12 +1,13 @@
 // The table check: any bytes go in; out comes the automaton's table as one value, or the refusal with its place. Everything
 // above reads tables only in this checked form. The fields are checked in file order, as document 01 sets down.
 ghost use mathlib.Core.Path.{_≡_};
-ghost use Prim.Native.Nat.{_+_, _*_, _^_, _<_, _≤_};
+ghost use Prim.Native.Nat.{_+_, _*_, _<_, _≤_};
 ghost use lib.ListN.{length, getD};
 ghost use Rattle.wire.specs.Field.{number32At};
 ghost use Rattle.table.specs.Answer.{numberOf, placeOf};
 ghost use Rattle.table.specs.Check.{inRange, countsInRange, headAnswer, countsIn, entriesAnswer, tableOf, tableWith, noTable};
 ghost use Rattle.table.specs.Check.{checkedAs, checkedOf};
+use sets::set_limit;
 use wire::number32;
 use wire::wide;
 
@@ -190,14 +191,6 @@ fn passed(
     }
 }
 
-// Sets of inputs below I are the numbers below this one. With I = 32 every bit may be used.
-fn set_limit(inputs: u32) -> u64
-    requires { ⌜ inputs ≤ 32 ⌝ }
-    ensures { λ r. ⌜ r ≡ 2 ^ inputs ⌝ }
-{
-    1u64 << inputs
-}
-
 // Fields 03 to 06, and the bytes after them, under the counts of fields 01 and 02.
 fn check_entries(s: &[u8], c: Counts) -> Checked
     requires { ⌜ (14 ≤ length (now s)) × (c .states ≤ 32) × (c .inputs ≤ 32) ⌝ }
@@ -252,11 +245,19 @@ pub fn check(s: &[u8]) -> Checked
     check_entries(s, counts_in(s))
 }
 
-// next(state, input). The rows are lent, since the whole table is too large to pass where this is asked for every record.
+// Where next(state, input) stands in the rows of a table with this many inputs.
+pub fn place_in_rows(inputs: u32, state: u32, input: u32) -> usize
+    requires { ⌜ (inputs ≤ 32) × (state < 32) × (input < 32) ⌝ }
+    ensures { λ r. ⌜ (r ≡ state * inputs + input) × (r < 1024) ⌝ }
+{
+    (state * inputs + input) as usize
+}
+
+// The rows are lent: the whole table is too large to pass where this is asked for every record.
 pub fn next_state(next: &[u8; 1024], inputs: u32, state: u32, input: u32) -> u32
     requires { ⌜ (inputs ≤ 32) × (state < 32) × (input < 32) ⌝ }
     ensures { λ r. ⌜ r ≡ getD (now (next .entry)) (state * inputs + input) 0 ⌝ }
 {
-    let at = (state * inputs + input) as usize;
+    let at = place_in_rows(inputs, state, input);
     wide(next[at])
 }

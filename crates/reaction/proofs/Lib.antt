@@ -1,0 +1,6 @@
+pub mod NextStates
+pub mod Weights
+pub mod Meaning
+pub mod Findings
+pub mod Entry
+pub mod Determined

@@ -1,0 +1,79 @@
+-- The loop keeps `OverMembers`; it ends where every state is covered.
+use borrow.Author.Needs.{needs}
+use native.Mathlib.Omega.{arith}
+use Rattle.sets.proofs.Walk.{taken-in}
+use Rattle.reaction.specs.Walks.{weightIn}
+use Rattle.reaction.proofs.Weights.{OverMembers, none-yet, all-covered, one-more}
+use Rattle.reaction.proofs.largest_weight.Statement.{statement}
+use Rattle.reaction.proofs.largest_weight.Tie as tie
+
+abbrev Inv-loop : tie.InvT-loop
+Inv-loop holds delayed bound states inputs rest₀ largest₀ rest largest = OverMembers states (weightIn holds delayed bound inputs) rest largest
+
+abbrev μ-loop : tie.MeasureT-loop
+μ-loop holds delayed bound states inputs rest₀ largest₀ rest largest = rest
+
+loop-holds : tie.Need-loop-holds Inv-loop μ-loop
+loop-holds c = none-yet
+
+take-smallest-requires : tie.Need-take-smallest-requires Inv-loop μ-loop
+take-smallest-requires c κs = omega arith
+
+cast-state : tie.Need-cast-state Inv-loop μ-loop
+cast-state c = omega (arith, c .before .take-smallest .ensures .below)
+
+mul-meet : tie.Need-mul-meet Inv-loop μ-loop
+mul-meet c = omega (arith, c .before .take-smallest .ensures .below)
+
+element-copy-out-meet : tie.Need-element-copy-out-meet Inv-loop μ-loop
+element-copy-out-meet c = c .before .take-smallest .ensures .below
+
+meet-requires : tie.Need-meet-requires Inv-loop μ-loop
+meet-requires c κs = search needs
+
+mul-weight : tie.Need-mul-weight Inv-loop μ-loop
+mul-weight c = omega (arith, c .before .before .before .take-smallest .ensures .below)
+
+element-copy-out-weight : tie.Need-element-copy-out-weight Inv-loop μ-loop
+element-copy-out-weight c = c .before .before .before .take-smallest .ensures .below
+
+weight-requires : tie.Need-weight-requires Inv-loop μ-loop
+weight-requires c κs =
+    let taken = c .before .before .before .before in
+    let pre = taken .before .before .before .pre in
+    (pre .1 _ (taken-in (taken .before .before .loop .inv .walk) (taken .take-smallest .ensures)), pre .0)
+
+larger-requires : tie.Need-larger-requires Inv-loop μ-loop
+larger-requires c κs = search needs
+
+loop-less : tie.Need-loop-less Inv-loop μ-loop
+loop-less c = c .before .before .before .before .before .before .take-smallest .ensures .less
+
+loop-again : tie.Need-loop-again Inv-loop μ-loop
+loop-again c =
+    let taken = c .before .before .before .before .before .before in
+    let larger-is = rw (c .before .weight .ensures, c .before .before .before .meet .ensures) at (c .larger .ensures) in
+    one-more (taken .before .before .loop .inv) (taken .take-smallest .ensures) larger-is
+
+returns : tie.Need-returns Inv-loop μ-loop
+returns c = all-covered (c .before .loop .inv) (search needs)
+
+pub largest-weight-spec : {M : Type 1} → statement M
+largest-weight-spec =
+    tie.close
+    (tie.spec
+    Inv-loop
+    μ-loop
+    loop-holds
+    take-smallest-requires
+    cast-state
+    mul-meet
+    element-copy-out-meet
+    meet-requires
+    mul-weight
+    element-copy-out-weight
+    weight-requires
+    larger-requires
+    loop-less
+    loop-again
+    returns)

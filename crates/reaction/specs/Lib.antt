@@ -1,0 +1,4 @@
+pub mod Answer
+pub mod Reaction
+pub mod Meaning
+pub mod Walks

@@ -1,0 +1,58 @@
+-- The reaction calculator: document 01, "Reaction times". P is a set of states and A a set of inputs, each a number.
+use mathlib.Core.List.{List}
+use mathlib.Core.Bool.{Bool, not}
+use Prim.Native.Nat.{ℕ, _+_, _*_, _/_, _%_, _^_}
+use Rattle.wire.specs.Choice.{_<?_, _=?_, _and_, if_then_else_}
+use Rattle.sets.specs.Sets.{member, some, setOf, largest}
+use Rattle.table.specs.declared.Table.{Table}
+use Rattle.table.specs.Table.{nextOf, holdOf, delays}
+use Rattle.table.specs.Entries.{firstFrom}
+use Rattle.table.specs.Answer as table
+use Rattle.table.specs.Check.{countsIn, tableAnswer, tableOf}
+use Rattle.reaction.specs.declared.Answer.{Answer}
+use Rattle.reaction.specs.declared.Answer.the-variants.{Reacts, TableRefused, UnknownState, UnknownInput, LeavesStates}
+
+-- next(P, A) is every next(p, a) with p in P and a in A.
+unfoldable pub nextSet : Table → ℕ → ℕ → ℕ
+nextSet t P A =
+    setOf (t .states)
+    (λ q. some (t .states) (λ p. member P p and some (t .inputs) (λ a. member A a and (nextOf t p a =? q))))
+
+-- hold + 2E if the hold is above 0 and some input is delayed; otherwise E.
+unfoldable pub weightOf : ℕ → ℕ → Bool → ℕ
+weightOf hold E delayed = if (0 <? hold) and delayed then hold + 2 * E else E
+
+-- The weight of p.
+abbrev pub weight : Table → ℕ → ℕ → ℕ
+weight t A p = weightOf (holdOf t p) (t .bound) (some (t .inputs) (λ a. member A a and delays t p a))
+
+-- E + the largest of 0 and the weights of the states in P outside the target.
+unfoldable pub reactionTime : Table → ℕ → ℕ → ℕ
+reactionTime t P A =
+    let target = nextSet t P A in
+    t .bound + largest (t .states) (λ p. member P p and not (member target p)) (weight t A)
+
+-- next(p, a) is outside P, where k is p × I + a.
+abbrev pub leavesAt : Table → ℕ → ℕ → ℕ → Bool
+leavesAt t P A k =
+    let p = k / t .inputs in
+    let a = k % t .inputs in
+    member P p and member A a and not (member P (nextOf t p a))
+
+-- The smallest such k, or Q × I.
+unfoldable pub firstLeaving : Table → ℕ → ℕ → ℕ
+firstLeaving t P A = firstFrom (leavesAt t P A) (t .states * t .inputs) 0
+
+-- 9 for states, 9 for inputs, then 10.
+unfoldable pub reactionOf : Table → ℕ → ℕ → Answer
+reactionOf t P A =
+    if not (P <? 2 ^ t .states) then UnknownState
+    else if not (A <? 2 ^ t .inputs) then UnknownInput
+    else if firstLeaving t P A <? t .states * t .inputs then LeavesStates (firstLeaving t P A)
+    else Reacts (reactionTime t P A) (nextSet t P A)
+
+-- A table refusal comes before all others.
+unfoldable pub reactOf : List ℕ → ℕ → ℕ → Answer
+reactOf s P A =
+    if table.numberOf (tableAnswer s) =? 0 then reactionOf (tableOf (countsIn s) s) P A
+    else TableRefused (tableAnswer s)

@@ -1,0 +1,179 @@
+// The reaction calculator: a table, a set of states and a set of inputs go in; the reaction time and the target set come out.
+ghost use mathlib.Core.Path.{_≡_};
+ghost use mathlib.Core.Bool.{true};
+ghost use Prim.Native.Nat.{ℕ, _≤_, max};
+ghost use lib.ListN.{getD};
+ghost use Rattle.sets.specs.Sets.{member};
+ghost use Rattle.table.specs.Table.{WellFormed};
+ghost use Rattle.reaction.specs.Answer.{numberOf, placeOf};
+ghost use Rattle.reaction.specs.Reaction.{weightOf, reactionOf, reactOf};
+ghost use Rattle.reaction.specs.Meaning.{Pairs};
+ghost use Rattle.reaction.specs.Walks.{inRows, Walkable, From, Finds, weightIn, IsLargest};
+use sets::difference;
+use sets::has;
+use sets::meet;
+use sets::single;
+use sets::take_smallest;
+use sets::union;
+use sets::within;
+use table::Table;
+use table::next_state;
+use table::place_in_rows;
+
+// The time and the target, or what is turned down.
+pub enum Answer {
+    Reacts { time: u32, target: u32 },
+    TableRefused(table::Answer),
+    UnknownState,
+    UnknownInput,
+    LeavesStates(usize),
+}
+
+impl Answer {
+    // The number that document 01 gives to the refusal; 0 where there is none.
+    pub fn number(self) -> u32
+        ensures { λ r. ⌜ r ≡ numberOf self ⌝ }
+    {
+        match self {
+            Answer::Reacts { time: _, target: _ } => 0,
+            Answer::TableRefused(refusal) => refusal.number(),
+            Answer::UnknownState => 9,
+            Answer::UnknownInput => 9,
+            Answer::LeavesStates(_) => 10,
+        }
+    }
+
+    pub fn place(self) -> usize
+        ensures { λ r. ⌜ r ≡ placeOf self ⌝ }
+    {
+        match self {
+            Answer::Reacts { time: _, target: _ } => 0,
+            Answer::TableRefused(refusal) => refusal.place(),
+            Answer::UnknownState => 0,
+            Answer::UnknownInput => 1,
+            Answer::LeavesStates(at) => at,
+        }
+    }
+}
+
+// What a walk over next states finds: the set of them, or the first pair whose next state is outside the states.
+enum Gathered {
+    Inside(u32),
+    Leaves { state: u32, input: u32 },
+}
+
+// The next states of one state under the inputs.
+fn next_of_state(rows: &[u8; 1024], width: u32, states: u32, inputs: u32, state: u32) -> Gathered
+    requires { ⌜ Walkable (inRows (now rows) width) width states inputs × (member states state ≡ true) ⌝ }
+    ensures { λ r. ⌜ Finds (inRows (now (rows .entry)) width) states (From state inputs) r ⌝ }
+{
+    let mut rest = inputs;
+    let mut target = 0;
+    while rest != 0 {
+        let taken = take_smallest(rest);
+        let input = taken.member;
+        let next = next_state(rows, width, state, input);
+        if !has(states, next) {
+            return Gathered::Leaves { state, input };
+        }
+        target = union(target, single(next));
+        rest = taken.rest;
+    }
+    Gathered::Inside(target)
+}
+
+// The next states of all the states under the inputs.
+fn next_of_states(rows: &[u8; 1024], width: u32, states: u32, inputs: u32) -> Gathered
+    requires { ⌜ Walkable (inRows (now rows) width) width states inputs ⌝ }
+    ensures { λ r. ⌜ Finds (inRows (now (rows .entry)) width) states (Pairs states inputs) r ⌝ }
+{
+    let mut rest = states;
+    let mut target = 0;
+    while rest != 0 {
+        let taken = take_smallest(rest);
+        let from = next_of_state(rows, width, states, inputs, taken.member);
+        let Gathered::Inside(more) = from else {
+            return from;
+        };
+        target = union(target, more);
+        rest = taken.rest;
+    }
+    Gathered::Inside(target)
+}
+
+// Whether some input is delayed in the state is known already.
+fn weight(hold: u32, bound: u32, delayed: bool) -> u32
+    requires { ⌜ (hold ≤ 3600000) × (bound ≤ 60000) ⌝ }
+    ensures { λ r. ⌜ r ≡ weightOf hold bound delayed ⌝ }
+{
+    if 0 < hold && delayed {
+        hold + 2 * bound
+    } else {
+        bound
+    }
+}
+
+fn larger(a: u32, b: u32) -> u32
+    ensures { λ r. ⌜ r ≡ max a b ⌝ }
+{
+    if a < b { b } else { a }
+}
+
+// The largest weight of these states; 0 where there is none.
+fn largest_weight<'a>(
+    holds: &'a [u32; 32],
+    delayed: &'a [u32; 32],
+    bound: u32,
+    states: u32,
+    inputs: u32,
+) -> u32
+    requires { ⌜ (bound ≤ 60000) × ((p : ℕ) → member states p ≡ true → getD (now holds) p 0 ≤ 3600000) ⌝ }
+    ensures { λ r. ⌜ IsLargest states (weightIn (now (holds .entry)) (now (delayed .entry)) bound inputs) r ⌝ }
+{
+    let mut rest = states;
+    let mut largest = 0;
+    while rest != 0 {
+        let taken = take_smallest(rest);
+        let state = taken.member as usize;
+        let some_delayed = meet(inputs, delayed[state]);
+        largest = larger(largest, weight(holds[state], bound, some_delayed));
+        rest = taken.rest;
+    }
+    largest
+}
+
+// The answer on a table that passed its check.
+fn react_checked(t: Table, states: u32, inputs: u32) -> Answer
+    requires { ⌜ WellFormed t ⌝ }
+    ensures { λ r. ⌜ r ≡ reactionOf t states inputs ⌝ }
+{
+    if !within(states, t.states) {
+        return Answer::UnknownState;
+    }
+    if !within(inputs, t.inputs) {
+        return Answer::UnknownInput;
+    }
+    let gathered = next_of_states(&t.next, t.inputs, states, inputs);
+    match gathered {
+        Gathered::Leaves { state, input } => {
+            Answer::LeavesStates(place_in_rows(t.inputs, state, input))
+        }
+        Gathered::Inside(target) => {
+            let outside = difference(states, target);
+            let time = t.bound + largest_weight(&t.hold, &t.delayed, t.bound, outside, inputs);
+            Answer::Reacts { time, target }
+        }
+    }
+}
+
+// The entry, on any bytes. The table's refusals come first, then 9 for states, 9 for inputs, then 10.
+pub fn react(table: &[u8], states: u32, inputs: u32) -> Answer
+    ensures { λ r. ⌜ r ≡ reactOf (now (table .entry)) states inputs ⌝ }
+{
+    let checked = table::check(table);
+    let refusal = checked.answer;
+    let table::Answer::Passes = refusal else {
+        return Answer::TableRefused(refusal);
+    };
+    react_checked(checked.table, states, inputs)
+}

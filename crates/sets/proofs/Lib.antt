@@ -1,0 +1,4 @@
+pub mod Bits
+pub mod Smallest
+pub mod Members
+pub mod Walk
