@@ -1,0 +1,172 @@
+-- A record that the machine takes is an edge of the automaton, and the other way round.
+use mathlib.Core.Path.{_≡_, refl, sym, _∙_}
+use mathlib.Core.Logic.{_⊎_, inl, inr, ⊎-elim}
+use mathlib.Core.Bool.{Bool, true, false}
+use Prim.Native.Nat.{ℕ, zero, suc, _+_, _-_, _<_, _≤_}
+use native.Mathlib.Nat.{sub-self}
+use native.Mathlib.Omega.{arith}
+use borrow.Author.Tests.{lt-ltb, le-leb, lt-leb, eq-eqb, ne-eqb, ltb-true, ltb-false, leb-true, leb-false, eqb-true, eqb-false}
+use Rattle.wire.specs.Choice.{_<?_, _≤?_, _=?_, _and_, if_then_else_}
+use Rattle.wire.proofs.Choice.{both}
+use Rattle.table.specs.declared.Table.{Table}
+use Rattle.table.specs.Table.{holdOf, delays}
+use Rattle.machine.specs.declared.Machine.{Machine}
+use Rattle.machine.specs.declared.Record.{Record}
+use Rattle.machine.specs.declared.Record.the-variants.{Change, Poll, Test, Tick, End}
+use Rattle.machine.specs.Machine.{timeOf, kindOf, allowed, settled, heldBy, verdict, stateAfter, agrees, after}
+use Rattle.machine.proofs.Steps.{Taken}
+use Rattle.runs.specs.Automaton.{Configuration, at, Edge, ta-1, ta-2, ta-3, ta-4, ta-5, ta-6, ta-7, ta-8, end}
+use Rattle.runs.proofs.Records.{phases, state-kept, entry-kept, state-next}
+
+-- The machine as the automaton has it at time `now`: the clocks give the time since the instants.
+abbrev inPhase : ℕ → Machine → ℕ → Configuration
+inPhase p m now = at p (m .input) (m .polled) (m .state) (now - m .change) (now - m .entry) (now - m .start)
+
+abbrev pub seen : Machine → ℕ → Configuration
+seen m now = inPhase (m .phase) m now
+
+-- ---- From the machine to the automaton
+
+module _ (t : Table) (m : Machine) (now : ℕ) where
+  abbrev Leads : Record → Type 0
+  Leads r = Edge t (seen m now) r (seen (after t m r) now)
+
+  poll-edge : (input : ℕ) → Taken t m (Poll now input) → Leads (Poll now input)
+  poll-edge input takes =
+      let settled = both (m .change <? now) (m .start <? now) (takes .is-settled) in
+      let x : 0 < now - m .change = omega (arith, ltb-true (m .change) now (settled .0)) in
+      let z : 0 < now - m .start = omega (arith, ltb-true (m .start) now (settled .1)) in
+      rw (phases (m .phase) .poll (takes .in-phase), eqb-true input (m .input) (takes .agreed)) (ta-2 x z)
+
+  test-edge : (v : ℕ) → Taken t m (Test now v) → Leads (Test now v)
+  unfolding verdict heldBy
+  test-edge v takes =
+      rw (eqb-true v (verdict t m now) (takes .agreed), phases (m .phase) .test (takes .in-phase))
+      (go (0 <? hold) refl (delays t (m .state) (m .polled)) refl (now - m .entry ≤? hold) refl)
+    where
+      hold : ℕ
+      hold = holdOf t (m .state)
+
+      go : (a : Bool) → (0 <? hold) ≡ a → (b : Bool) → delays t (m .state) (m .polled) ≡ b → (c : Bool) → (now - m .entry ≤? hold) ≡ c →
+          Edge t (inPhase 1 m now) (Test now (if a and b and c then 0 else 1)) (inPhase (2 + (if a and b and c then 0 else 1)) m now)
+      go false ea b eb c ec = let no : hold ≡ 0 = omega (arith, ltb-false 0 hold ea) in ta-5 (inl no)
+      go true ea false eb c ec = ta-5 (inr eb)
+      go true ea true eb true ec = ta-3 (leb-true _ hold ec) (ltb-true 0 hold ea) eb
+      go true ea true eb false ec = ta-4 (leb-false _ hold ec) (ltb-true 0 hold ea) eb
+
+  tick-edge : (q : ℕ) → Taken t m (Tick now q) → Leads (Tick now q)
+  tick-edge q takes = ⊎-elim from-2 (λ three. from-3 three (stateAfter t m =? m .state) refl) (phases (m .phase) .tick (takes .in-phase))
+    where
+      is : q ≡ stateAfter t m
+      is = eqb-true q (stateAfter t m) (takes .agreed)
+
+      from-2 : m .phase ≡ 2 → Leads (Tick now q)
+      from-2 two = rw (is, entry-kept t m two now, state-kept t m two, sub-self now, two) ta-6
+
+      from-3 : m .phase ≡ 3 → (b : Bool) → (stateAfter t m =? m .state) ≡ b → Leads (Tick now q)
+      from-3 three true e =
+          let same = eqb-true (stateAfter t m) (m .state) e in
+          rw (is, e, same, sub-self now, three) (ta-7 (sym (state-next t m three) ∙ same))
+      from-3 three false e =
+          let next = state-next t m three in
+          rw (is, e, next, sub-self now, three) (ta-8 refl (λ same. eqb-false _ _ e (next ∙ same)))
+
+pub edge : (t : Table) (m : Machine) (r : Record) → Taken t m r → Leads t m (timeOf r) r
+edge t m (Change now input) takes = rw (sub-self now) ta-1
+edge t m (Poll now input) takes = poll-edge t m now input takes
+edge t m (Test now v) takes = test-edge t m now v takes
+edge t m (Tick now state) takes = tick-edge t m now state takes
+edge t m (End now) takes = end
+
+-- ---- From the automaton to the machine
+
+-- The machine takes the record, if its time is right, and c is the machine after it.
+pub record Fits (t : Table) (m : Machine) (r : Record) (c : Configuration) : Type 0 where
+  pub in-phase : allowed (m .phase) (kindOf r) ≡ true
+  pub is-settled : settled m r ≡ true
+  pub agreed : agrees t m r ≡ true
+  pub leads : c ≡ seen (after t m r) (timeOf r)
+
+every-phase : (p : ℕ) → p < 4 → (allowed p 0 ≡ true) × (allowed p 4 ≡ true)
+every-phase zero l = (refl, refl)
+every-phase (suc zero) l = (refl, refl)
+every-phase (suc (suc zero)) l = (refl, refl)
+every-phase (suc (suc (suc zero))) l = (refl, refl)
+every-phase (suc (suc (suc (suc p)))) l = absurd (omega arith)
+
+module _ (t : Table) (m : Machine) (now : ℕ) where
+  abbrev Delayed : Type 0
+  Delayed = (0 < holdOf t (m .state)) × (delays t (m .state) (m .polled) ≡ true)
+
+  hold-running : now - m .entry ≤ holdOf t (m .state) → Delayed → verdict t m now ≡ 0
+  unfolding verdict heldBy
+  hold-running l d = rw (lt-ltb 0 _ (d .0), d .1, le-leb _ _ l)
+
+  hold-passed : holdOf t (m .state) < now - m .entry → Delayed → verdict t m now ≡ 1
+  unfolding verdict heldBy
+  hold-passed l d = rw (lt-ltb 0 _ (d .0), d .1, lt-leb _ _ l)
+
+  no-hold : (holdOf t (m .state) ≡ 0) ⊎ (delays t (m .state) (m .polled) ≡ false) → verdict t m now ≡ 1
+  unfolding verdict heldBy
+  no-hold (inl e) = rw e
+  no-hold (inr e) = rw e (go (0 <? holdOf t (m .state)))
+    where
+      go : (b : Bool) → _≡_ {A = ℕ} (if b and false then 0 else 1) 1
+      go true = refl
+      go false = refl
+
+  tested : (v : ℕ) (c : Configuration) → m .phase ≡ 1 → verdict t m now ≡ v → c ≡ inPhase (2 + v) m now → Fits t m (Test now v) c
+  tested v c one is leads = record { in-phase = rw one; is-settled = refl; agreed = eq-eqb v (verdict t m now) (sym is); leads = rw is leads }
+
+pub fits : (t : Table) (m : Machine) → m .phase < 4 → (r : Record) (c c′ : Configuration) → Edge t c r c′ → c ≡ seen m (timeOf r) → Fits t m r c′
+fits t m l r c c′ (ta-1 {time = now}) e =
+    record { in-phase = every-phase (m .phase) l .0; is-settled = refl; agreed = refl; leads = cc (sub-self now) }
+fits t m l r c c′ (ta-2 {a = a} {x = x} {z = z} {time = now} x-positive z-positive) e =
+    let zero : m .phase ≡ 0 = cc in
+    let x-is : x ≡ now - m .change = cc in
+    let z-is : z ≡ now - m .start = cc in
+    record {
+      in-phase = rw zero;
+      is-settled = rw (lt-ltb (m .change) now (omega arith), lt-ltb (m .start) now (omega arith));
+      agreed = eq-eqb a (m .input) (cc);
+      leads = cc;
+    }
+fits t m l r c c′ (ta-3 {q = q} {y = y} {time = now} running some delayed) e =
+    let y-is : y ≡ now - m .entry = cc in
+    let hold : holdOf t q ≡ holdOf t (m .state) = cc in
+    tested t m now 0 c′ (cc) (hold-running t m now (omega arith) (omega arith, cc)) (cc)
+fits t m l r c c′ (ta-4 {q = q} {y = y} {time = now} passed some delayed) e =
+    let y-is : y ≡ now - m .entry = cc in
+    let hold : holdOf t q ≡ holdOf t (m .state) = cc in
+    tested t m now 1 c′ (cc) (hold-passed t m now (omega arith) (omega arith, cc)) (cc)
+fits t m l r c c′ (ta-5 {time = now} none) e =
+    tested t m now 1 c′ (cc) (no-hold t m now (⊎-elim (λ no. inl (cc)) (λ no. inr (cc)) none)) (cc)
+fits t m l r c c′ (ta-6 {q = q} {time = now}) e =
+    let two : m .phase ≡ 2 = cc in
+    let same = state-kept t m two in
+    record {
+      in-phase = rw two;
+      is-settled = refl;
+      agreed = eq-eqb q (stateAfter t m) (cc);
+      leads = rw (entry-kept t m two now, same, sub-self now) (cc);
+    }
+fits t m l r c c′ (ta-7 {q = q} {time = now} loops) e =
+    let three : m .phase ≡ 3 = cc in
+    let same : stateAfter t m ≡ m .state = cc (state-next t m three) in
+    record {
+      in-phase = rw three;
+      is-settled = refl;
+      agreed = eq-eqb q (stateAfter t m) (cc);
+      leads = rw (eq-eqb (stateAfter t m) (m .state) same, same, sub-self now) (cc);
+    }
+fits t m l r c c′ (ta-8 {q = q} {p = p} {time = now} moves another) e =
+    let three : m .phase ≡ 3 = cc in
+    let from : m .state ≡ q = cc in
+    let to : stateAfter t m ≡ p = cc (state-next t m three) in
+    record {
+      in-phase = rw three;
+      is-settled = refl;
+      agreed = eq-eqb p (stateAfter t m) (sym to);
+      leads = rw (ne-eqb (stateAfter t m) (m .state) (λ same. another (sym to ∙ same ∙ from)), to, sub-self now) (cc);
+    }
+fits t m l r c c′ end e = record { in-phase = every-phase (m .phase) l .1; is-settled = refl; agreed = refl; leads = e }

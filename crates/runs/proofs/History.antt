@@ -1,0 +1,123 @@
+-- What a machine of a run has behind it: slots that show its state, its input and what it polled.
+use mathlib.Core.Path.{_≡_, refl, ap}
+use mathlib.Core.Logic.{⊎-elim}
+use mathlib.Core.Bool.{Bool, true, false}
+use Prim.Native.Nat.{ℕ, _+_, _-_, _<_, _≤_}
+use native.Mathlib.Omega.{arith}
+use borrow.Author.Tests.{ltb-true, leb-true}
+use Rattle.wire.specs.Choice.{_<?_, if_then_else_}
+use Rattle.wire.proofs.Choice.{both}
+use Rattle.table.specs.declared.Table.{Table}
+use Rattle.table.specs.Table.{holdOf, delays}
+use Rattle.machine.specs.declared.Machine.{Machine}
+use Rattle.machine.specs.declared.Record.{Record}
+use Rattle.machine.specs.declared.Record.the-variants.{Change, Poll, Test, Tick, End}
+use Rattle.machine.specs.Machine.{start, timeOf, heldBy, held, verdict, after}
+use Rattle.machine.proofs.Steps.{Taken}
+use Rattle.runs.proofs.Records.{split, phases, entry-before}
+
+-- The polled input was that of a slot of this cycle.
+pub record PolledIn (slots : ℕ → Machine) (polled start now : ℕ) : Type 0 where
+  pub at : ℕ
+  pub begun : start ≤ at
+  pub past : at < now
+  pub was : (slots at) .input ≡ polled
+
+-- The polled input was held, so the cycle began before the hold was passed.
+pub record Holding (t : Table) (state polled entry start : ℕ) : Type 0 where
+  pub some : 0 < holdOf t state
+  pub delayed : delays t state polled ≡ true
+  pub begun : start < entry + holdOf t state
+
+pub record History (t : Table) (slots : ℕ → Machine) (m : Machine) (now : ℕ) : Type 0 where
+  pub entered : m .entry ≤ m .start
+  pub begun : m .start ≤ now
+  pub state : (k : ℕ) → m .start ≤ k → k < now → (slots k) .state ≡ m .state
+  pub input : (k : ℕ) → m .change ≤ k → k < now → (slots k) .input ≡ m .input
+  pub polled : 0 < m .phase → PolledIn slots (m .polled) (m .start) now
+  pub held : m .phase ≡ 2 → Holding t (m .state) (m .polled) (m .entry) (m .start)
+
+holding : (t : Table) (m : Machine) (time : ℕ) → m .start < time → 2 + verdict t m time ≡ 2 → Holding t (m .state) (m .polled) (m .entry) (m .start)
+unfolding verdict heldBy
+holding t m time l two =
+    let yes = both (0 <? holdOf t (m .state)) _ (held-by (held t m time) two) in
+    let rest = both (delays t (m .state) (m .polled)) _ (yes .1) in
+    let within : time - m .entry ≤ holdOf t (m .state) = leb-true _ _ (rest .1) in
+    record { some = ltb-true _ _ (yes .0); delayed = rest .0; begun = omega arith }
+  where
+    held-by : (b : Bool) → 2 + (if b then 0 else 1) ≡ 2 → b ≡ true
+    held-by true e = refl
+    held-by false e = absurd (omega arith)
+
+module _ (t : Table) (slots : ℕ → Machine) where
+  pub at-first : (initial input : ℕ) → History t slots (start initial input) 0
+  at-first initial input = record {
+    entered = omega arith;
+    begun = omega arith;
+    state = λ k l u. absurd (omega arith);
+    input = λ k l u. absurd (omega arith);
+    polled = λ l. absurd (omega arith);
+    held = λ e. absurd (omega arith);
+  }
+
+  -- Up to the next record every slot shows the machine itself.
+  pub until : (m : Machine) (now : ℕ) → m .time ≤ now → ((k : ℕ) → m .time ≤ k → k < now → slots k ≡ m) →
+      History t slots m (m .time) → History t slots m now
+  until m now order shows h = record {
+    entered = h .entered;
+    begun = omega (arith, h .begun);
+    state = λ k l u. ⊎-elim (λ new. ap (λ (n : Machine). n .state) (shows k new u)) (λ old. h .state k l old) (split (m .time) k);
+    input = λ k l u. ⊎-elim (λ new. ap (λ (n : Machine). n .input) (shows k new u)) (λ old. h .input k l old) (split (m .time) k);
+    polled = λ l. let p = h .polled l in record { at = p .at; begun = p .begun; past = omega (arith, p .past); was = p .was };
+    held = h .held;
+  }
+
+  -- And a record hands the history on.
+  pub onward : (m : Machine) (r : Record) → Taken t m r → History t slots m (timeOf r) → History t slots (after t m r) (timeOf r)
+  onward m (Change time input) taken h = record {
+    entered = h .entered;
+    begun = h .begun;
+    state = h .state;
+    input = λ k l u. absurd (omega arith);
+    polled = h .polled;
+    held = h .held;
+  }
+  onward m (Poll time input) taken h =
+      let settled = both (m .change <? time) (m .start <? time) (taken .is-settled) in
+      let changed : m .change < time = ltb-true _ _ (settled .0) in
+      let begun : m .start < time = ltb-true _ _ (settled .1) in
+      record {
+        entered = h .entered;
+        begun = h .begun;
+        state = h .state;
+        input = h .input;
+        polled = λ l. record { at = time - 1; begun = omega arith; past = omega arith; was = h .input (time - 1) (omega arith) (omega arith) };
+        held = λ e. absurd (omega arith);
+      }
+  onward m (Test time verdict) taken h =
+      let one : m .phase ≡ 1 = phases (m .phase) .test (taken .in-phase) in
+      let p = h .polled (omega arith) in
+      record {
+        entered = h .entered;
+        begun = h .begun;
+        state = h .state;
+        input = h .input;
+        polled = λ l. p;
+        held = holding t m time (omega (arith, p .begun, p .past));
+      }
+  onward m (Tick time state) taken h = record {
+    entered = entry-before t m time (omega (arith, h .entered, h .begun));
+    begun = omega arith;
+    state = λ k l u. absurd (omega arith);
+    input = h .input;
+    polled = λ l. absurd (omega arith);
+    held = λ e. absurd (omega arith);
+  }
+  onward m (End time) taken h = record {
+    entered = h .entered;
+    begun = h .begun;
+    state = h .state;
+    input = h .input;
+    polled = h .polled;
+    held = h .held;
+  }

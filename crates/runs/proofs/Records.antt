@@ -1,0 +1,68 @@
+-- What a record says of the machine that takes it, and of the machine after it.
+use mathlib.Core.Path.{_≡_, refl, sym}
+use mathlib.Core.Logic.{_⊎_, inl, inr}
+use mathlib.Core.List.{List, _∷_}
+use mathlib.Core.Bool.{Bool, true, false}
+use Prim.Native.Nat.{ℕ, zero, suc, _<_, _≤_}
+use native.Mathlib.Omega.{arith}
+use borrow.Author.Tests.{leb-true, leb-false, eq-eqb}
+use Rattle.wire.specs.Choice.{_≤?_, _=?_, if_then_else_}
+use Rattle.wire.proofs.Choice.{never}
+use Rattle.table.specs.declared.Table.{Table}
+use Rattle.table.specs.Table.{nextOf}
+use Rattle.machine.specs.declared.Machine.{Machine}
+use Rattle.machine.specs.declared.Record.{Record}
+use Rattle.machine.specs.declared.Record.the-variants.{Change, Poll, Test, Tick, End}
+use Rattle.machine.specs.Machine.{timeOf, allowed, stateAfter, after}
+use Rattle.machine.specs.Run.{Runs}
+use Rattle.machine.proofs.Laws.{from-phase-3, stays}
+use Rattle.machine.proofs.Steps.{Taken, step-taken}
+
+pub split : (n k : ℕ) → (n ≤ k) ⊎ (k < n)
+split n k = go (n ≤? k) refl
+  where
+    go : (b : Bool) → (n ≤? k) ≡ b → (n ≤ k) ⊎ (k < n)
+    go true e = inl (leb-true n k e)
+    go false e = inr (leb-false n k e)
+
+-- The phases in which a poll, a test and a tick may come.
+pub record Phases (p : ℕ) : Type 0 where
+  pub poll : allowed p 1 ≡ true → p ≡ 0
+  pub test : allowed p 2 ≡ true → p ≡ 1
+  pub tick : allowed p 3 ≡ true → (p ≡ 2) ⊎ (p ≡ 3)
+
+pub phases : (p : ℕ) → Phases p
+phases zero = record { poll = λ e. refl; test = λ e. never e; tick = λ e. never e }
+phases (suc zero) = record { poll = λ e. never e; test = λ e. refl; tick = λ e. never e }
+phases (suc (suc zero)) = record { poll = λ e. never e; test = λ e. never e; tick = λ e. inl refl }
+phases (suc (suc (suc zero))) = record { poll = λ e. never e; test = λ e. never e; tick = λ e. inr refl }
+phases (suc (suc (suc (suc p)))) = record { poll = λ e. never e; test = λ e. never e; tick = λ e. never e }
+
+module _ (t : Table) (m : Machine) where
+  pub time-after : (r : Record) → (after t m r) .time ≡ timeOf r
+  time-after (Change time input) = refl
+  time-after (Poll time input) = refl
+  time-after (Test time verdict) = refl
+  time-after (Tick time state) = refl
+  time-after (End time) = refl
+
+  pub first-taken : (r : Record) (rs : List Record) (last : Machine) → Runs t m (r ∷ rs) last → Taken t m r
+  first-taken r rs last run = step-taken t m r (after t m r) (run .0) .0
+
+  -- ---- The tick
+
+  pub entry-before : (time : ℕ) → m .entry ≤ time → (if stateAfter t m =? m .state then m .entry else time) ≤ time
+  entry-before time l = go (stateAfter t m =? m .state)
+    where
+      go : (b : Bool) → (if b then m .entry else time) ≤ time
+      go true = l
+      go false = omega arith
+
+  pub state-kept : m .phase ≡ 2 → stateAfter t m ≡ m .state
+  state-kept two = sym (stays t m (λ three. omega arith))
+
+  pub entry-kept : m .phase ≡ 2 → (time : ℕ) → (if stateAfter t m =? m .state then m .entry else time) ≡ m .entry
+  entry-kept two time = rw (eq-eqb (stateAfter t m) (m .state) (state-kept two))
+
+  pub state-next : m .phase ≡ 3 → stateAfter t m ≡ nextOf t (m .state) (m .polled)
+  state-next three = sym (from-phase-3 t m three (nextOf t (m .state) (m .polled)) refl)

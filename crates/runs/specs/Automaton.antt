@@ -1,0 +1,63 @@
+-- The timed automaton of document 000 (section 3 with Table 1, appendix A), with time in whole ticks.
+use mathlib.Core.Path.{_≡_}
+use mathlib.Core.Logic.{_⊎_, _↔_}
+use mathlib.Core.List.{List, [], _∷_}
+use mathlib.Core.Bool.{true, false}
+use Prim.Native.Nat.{ℕ, _+_, _<_, _≤_}
+use Rattle.table.specs.declared.Table.{Table}
+use Rattle.table.specs.Table.{holdOf, delays, nextOf}
+use Rattle.machine.specs.declared.Record.{Record}
+use Rattle.machine.specs.declared.Record.the-variants.{Change, Poll, Test, Tick, End}
+use Rattle.machine.specs.Machine.{timeOf}
+use Rattle.runs.specs.Accepted.{Accepted}
+
+-- A location (i, a, b, q), which is the phase, the present input, the polled input and the state; and the clocks: x since the last
+-- change, y since the entry into the state, z since the cycle start.
+pub data Configuration : Type 0 where
+  at : (i a b q x y z : ℕ) → Configuration
+
+-- At first every clock is 0. The report leaves b open; 01 decides: it is the given input too.
+abbrev pub initially : Table → ℕ → Configuration
+initially t input = at 0 input input (t .initial) 0 0 0
+
+-- d ticks later.
+abbrev pub later : ℕ → Configuration → Configuration
+later d (at i a b q x y z) = at i a b q (x + d) (y + d) (z + d)
+
+-- The invariant of every location: z ≤ E.
+abbrev pub Invariant : Table → Configuration → Type 0
+Invariant t (at i a b q x y z) = z ≤ t .bound
+
+-- Table 1. The label of an edge is a record, which names the polled input, the verdict or the state afterwards too.
+pub data Edge (t : Table) : Configuration → Record → Configuration → Type 0 where
+  -- The report asks c ≠ a. 01 decides: a record that names the present input is a change like any other.
+  ta-1 : {i a b q x y z c time : ℕ} → Edge t (at i a b q x y z) (Change time c) (at i c b q 0 y z)
+  ta-2 : {a b q x y z time : ℕ} → 0 < x → 0 < z → Edge t (at 0 a b q x y z) (Poll time a) (at 1 a a q x y z)
+  -- The report has y < hold here, and y ≥ hold in ta-4. 01 decides: the hold ends when it is passed.
+  ta-3 : {a b q x y z time : ℕ} → y ≤ holdOf t q → 0 < holdOf t q → delays t q b ≡ true →
+      Edge t (at 1 a b q x y z) (Test time 0) (at 2 a b q x y z)
+  ta-4 : {a b q x y z time : ℕ} → holdOf t q < y → 0 < holdOf t q → delays t q b ≡ true →
+      Edge t (at 1 a b q x y z) (Test time 1) (at 3 a b q x y z)
+  ta-5 : {a b q x y z time : ℕ} → (holdOf t q ≡ 0) ⊎ (delays t q b ≡ false) →
+      Edge t (at 1 a b q x y z) (Test time 1) (at 3 a b q x y z)
+  ta-6 : {a b q x y z time : ℕ} → Edge t (at 2 a b q x y z) (Tick time q) (at 0 a b q x y 0)
+  ta-7 : {a b q x y z time : ℕ} → nextOf t q b ≡ q → Edge t (at 3 a b q x y z) (Tick time q) (at 0 a b q x y 0)
+  ta-8 : {a b q x y z p time : ℕ} → nextOf t q b ≡ p → (p ≡ q → ⊥) → Edge t (at 3 a b q x y z) (Tick time p) (at 0 a b p x 0 0)
+  -- The report's runs never end. 01 decides: the end may come in every location.
+  end : {i a b q x y z time : ℕ} → Edge t (at i a b q x y z) (End time) (at i a b q x y z)
+
+-- From c at time `now`: ticks pass until the record's time, the invariant holds to their end, and an edge leads to c′.
+pub record Transition (t : Table) (now : ℕ) (c : Configuration) (r : Record) (c′ : Configuration) : Type 0 where
+  pub ticks : ℕ
+  pub time : timeOf r ≡ now + ticks
+  pub invariant : Invariant t (later ticks c)
+  pub edge : Edge t (later ticks c) r c′
+
+-- A run from c at time `now`, ending at T.
+abbrev pub Run : Table → ℕ → Configuration → List Record → ℕ → Type 0
+Run t now c [] T = now ≡ T
+Run t now c (r ∷ rs) T = (c′ : Configuration) × Transition t now c r c′ × Run t (timeOf r) c′ rs T
+
+-- The machine accepts exactly the automaton's runs.
+abbrev pub MachineIsAutomaton : Type 0
+MachineIsAutomaton = (t : Table) (input : ℕ) (rs : List Record) (T : ℕ) → Accepted t input rs T ↔ Run t 0 (initially t input) rs T

@@ -1,0 +1,4 @@
+pub mod Accepted
+pub mod Automaton
+pub mod Slots
+pub mod Reaction

@@ -1,0 +1,51 @@
+-- Slots, and demand 3 in slots: document 01, "The machine" and "Reaction times".
+use mathlib.Core.Path.{_≡_}
+use mathlib.Core.Logic.{_⊎_}
+use mathlib.Core.List.{List, [], _∷_}
+use mathlib.Core.Bool.{Bool, true}
+use Prim.Native.Nat.{ℕ, _+_, _<_, _≤_}
+use Rattle.wire.specs.Choice.{_≤?_, if_then_else_}
+use Rattle.table.specs.declared.Table.{Table}
+use Rattle.table.specs.Table.{holdOf, delays}
+use Rattle.machine.specs.declared.Machine.{Machine}
+use Rattle.machine.specs.declared.Record.{Record}
+use Rattle.machine.specs.declared.Record.the-variants.{Tick}
+use Rattle.machine.specs.Machine.{start, timeOf, after}
+use Rattle.runs.specs.Accepted.{Accepted}
+
+-- The machine after every record with time at most k.
+unfoldable pub slot : Table → Machine → List Record → ℕ → Machine
+slot t m [] k = m
+slot t m (r ∷ rs) k = slot t (if timeOf r ≤? k then after t m r else m) rs k
+
+-- Slot k's input and state.
+abbrev pub inputAt : Table → ℕ → List Record → ℕ → ℕ
+inputAt t input rs k = slot t (start (t .initial) input) rs k .input
+
+abbrev pub stateAt : Table → ℕ → List Record → ℕ → ℕ
+stateAt t input rs k = slot t (start (t .initial) input) rs k .state
+
+-- A tick at e makes q the state from another: its record names q, and the machine before it has another state.
+abbrev pub Enters : Table → Machine → List Record → ℕ → ℕ → Type 0
+Enters t m [] q e = ⊥
+Enters t m (r ∷ rs) q e = ((r ≡ Tick e q) × (m .state ≡ q → ⊥)) ⊎ Enters t (after t m r) rs q e
+
+-- q is entered at e; the initial state is entered at 0.
+abbrev pub EnteredAt : Table → ℕ → List Record → ℕ → ℕ → Type 0
+EnteredAt t input rs q e = ((q ≡ t .initial) × (e ≡ 0)) ⊎ Enters t (start (t .initial) input) rs q e
+
+-- q is entered at e, e ≤ k ≤ e + hold, k < T, and each slot from e to k - 1 has an input delayed in q. Then slot k has state q.
+abbrev pub NotTooSoon : Table → Type 0
+NotTooSoon t =
+    (input : ℕ) (rs : List Record) (T : ℕ) → Accepted t input rs T →
+    (q e k : ℕ) → EnteredAt t input rs q e → e ≤ k → k ≤ e + holdOf t q → k < T →
+    ((j : ℕ) → e ≤ j → j < k → delays t q (inputAt t input rs j) ≡ true) →
+    stateAt t input rs k ≡ q
+
+-- s + c < T, and each slot from s to s + c - 1 has its state in P and its input in A. Then slot s + c has its state in N.
+abbrev pub NotTooLate : Table → (ℕ → Bool) → (ℕ → Bool) → (ℕ → Bool) → ℕ → Type 0
+NotTooLate t P A N c =
+    (input : ℕ) (rs : List Record) (T : ℕ) → Accepted t input rs T →
+    (s : ℕ) → s + c < T →
+    ((k : ℕ) → s ≤ k → k < s + c → (P (stateAt t input rs k) ≡ true) × (A (inputAt t input rs k) ≡ true)) →
+    N (stateAt t input rs (s + c)) ≡ true
