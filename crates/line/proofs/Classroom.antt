@@ -1,0 +1,13 @@
+-- The two lines that document 01 gives for the classroom run and for the same run with a changed verdict.
+use mathlib.Core.Path.{_≡_, refl}
+use Rattle.machine.specs.declared.Refusal.the-variants.{Differs}
+use Rattle.journal.specs.declared.Answer.the-variants.{Accepted, Refused}
+use Rattle.line.specs.Line.{text, digitsOf, acceptedLine, refusedLine, lineOf}
+
+pub accepted-line : lineOf (Accepted 12 4 2 0 0) ≡ text "accepted end=12 cycles=4 moves=2 state=0 output=0\n"
+unfolding digitsOf acceptedLine lineOf
+accepted-line = refl
+
+pub refused-line : lineOf (Refused Differs 76) ≡ text "refused 28 at 76\n"
+unfolding digitsOf refusedLine lineOf
+refused-line = refl

@@ -1,0 +1,4 @@
+pub mod Puts
+pub mod Decimal
+pub mod Answers
+pub mod Classroom

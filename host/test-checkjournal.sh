@@ -1,0 +1,249 @@
+#!/usr/bin/env bash
+# Runs the program `checkjournal` on files of every kind that document 01 tells apart, each in a folder of its own, and compares the
+# line that it prints, to the byte. The last line is 'N passed, M failed'; the exit status is 0 if none failed.
+set -euo pipefail
+
+root=$(cd "$(dirname "${BASH_SOURCE[0]}")/.." && pwd)
+room=$(mktemp -d)
+trap 'rm -rf "$room"' EXIT
+passed=0
+failed=0
+
+# ---- What the cases are made of
+
+put() { # HEX: writes these bytes
+    local i
+    for ((i = 0; i < ${#1}; i += 2)); do
+        printf '%b' "\\x${1:i:2}"
+    done
+}
+
+record() { # TAG TIME VALUE: writes a record of a journal
+    put "$(printf '%s0005%08x%02x' "$@")"
+}
+
+end() { # TIME: writes the end field of a journal
+    put "$(printf '1f0004%08x' "$1")"
+}
+
+zeros() { # COUNT: writes so many zero bytes
+    head -c "$1" /dev/zero
+}
+
+repeats() { # COUNT: writes the opening field and so many changes to input 0 at time 0
+    put 10000100
+    # shellcheck disable=SC2046
+    printf '\x11\x00\x05\x00\x00\x00\x00\x00%.0s' $(seq "$1")
+}
+
+# ---- One case
+
+fresh() { # starts a case: a folder with the classroom files
+    rm -rf "$room/files"
+    mkdir "$room/files"
+    cp "$root/examples/classroom/table.bin" "$root/examples/classroom/journal.bin" "$room/files"
+    cd "$room/files"
+}
+
+result() { # NAME RIGHT(true or false) WHAT
+    if [ "$2" = true ]; then
+        passed=$((passed + 1))
+        echo "ok      $1: $3"
+    else
+        failed=$((failed + 1))
+        echo "FAILED  $1: $3"
+    fi
+}
+
+prints() { # NAME LINE: ends a case
+    printf '%s\n' "$2" >"$room/expected"
+    if "$root/host/run-program" checkjournal >"$room/printed" 2>"$room/said" && cmp -s "$room/printed" "$room/expected" && [ ! -s "$room/said" ]; then
+        result "$1" true "$2"
+    else
+        result "$1" false "expected '$2', got '$(head -c 200 "$room/printed")' $(head -c 200 "$room/said")"
+    fi
+}
+
+same() { # NAME FILE FILE: both have the same bytes
+    if cmp -s "$root/$2" "$root/$3"; then
+        result "$1" true "$2 is $3"
+    else
+        result "$1" false "$2 is not $3"
+    fi
+}
+
+if ! (cd "$root" && rt check checkjournal) >"$room/built" 2>&1; then
+    cat "$room/built"
+    exit 1
+fi
+
+# ---- The stored files
+
+same 'the built-in run has the classroom table' crates/checkjournal/data/table.bin examples/classroom/table.bin
+same 'the built-in run has the classroom journal' crates/checkjournal/data/journal.bin examples/classroom/journal.bin
+same 'the changed verdict has the classroom table' examples/changed-verdict/table.bin examples/classroom/table.bin
+
+# ---- The runs of document 01
+
+fresh
+prints 'the classroom run' 'accepted end=12 cycles=4 moves=2 state=0 output=0'
+
+fresh
+cp "$root/examples/changed-verdict/journal.bin" .
+prints 'the test at 8 with verdict 1' 'refused 28 at 76'
+
+fresh
+{ put 10000100; end 0; } >journal.bin
+prints 'opening field and end at 0' 'accepted end=0 cycles=0 moves=0 state=0 output=0'
+
+# ---- Files that are missing, empty or no files
+
+fresh
+rm table.bin journal.bin
+prints 'no files at all' 'refused 1 at 0'
+
+fresh
+rm table.bin
+prints 'no table' 'refused 1 at 0'
+
+fresh
+rm journal.bin
+prints 'no journal' 'refused 20 at 0'
+
+fresh
+: >table.bin
+prints 'an empty table' 'refused 1 at 0'
+
+fresh
+: >journal.bin
+prints 'an empty journal' 'refused 20 at 0'
+
+fresh
+ln -sf nowhere table.bin
+prints 'a table that cannot be opened' 'refused 1 at 0'
+
+fresh
+ln -sf nowhere journal.bin
+prints 'a journal that cannot be opened' 'refused 20 at 0'
+
+fresh
+rm table.bin
+mkdir table.bin
+prints 'a directory in place of the table' 'refused 1 at 0'
+
+fresh
+rm journal.bin
+mkdir journal.bin
+prints 'a directory in place of the journal' 'refused 20 at 0'
+
+# ---- Torn files, and bytes after the last field
+
+fresh
+head -c 47 "$root/examples/classroom/table.bin" >table.bin
+prints 'a table without its last byte' 'refused 1 at 37'
+
+fresh
+head -c 104 "$root/examples/classroom/journal.bin" >journal.bin
+prints 'a journal torn within a record' 'refused 20 at 100'
+
+fresh
+head -c 116 "$root/examples/classroom/journal.bin" >journal.bin
+prints 'a journal without its end field' 'refused 20 at 116'
+
+fresh
+zeros 1 >>table.bin
+prints 'a byte after the table' 'refused 8 at 48'
+
+fresh
+zeros 1 >>journal.bin
+prints 'a byte after the journal' 'refused 22 at 123'
+
+# ---- Journals of about 65,536 bytes
+
+fresh
+{ repeats 8190; end 0; } >journal.bin
+prints 'the longest journal that can be accepted, 65,531 bytes' 'accepted end=0 cycles=0 moves=0 state=0 output=0'
+
+fresh
+{ repeats 8190; end 0; zeros 5; } >journal.bin
+prints 'a journal of 65,536 bytes' 'refused 22 at 65531'
+
+fresh
+{ repeats 8191; put 1f000400; } >journal.bin
+prints 'a torn journal of 65,536 bytes' 'refused 20 at 65532'
+
+fresh
+{ repeats 8190; end 0; zeros 6; } >journal.bin
+prints 'a journal of 65,537 bytes' 'refused 19 at 0'
+
+fresh
+zeros 200000 >>journal.bin
+prints 'a journal of 200,123 bytes' 'refused 19 at 0'
+
+fresh
+zeros 65537 >journal.bin
+rm table.bin
+prints 'a journal of 65,537 bytes and no table' 'refused 1 at 0'
+
+# ---- Tables of about 65,536 bytes: no more of them count
+
+fresh
+{ put 01fffd; zeros 65533; } >table.bin
+prints 'a field that fills a table of 65,536 bytes' 'refused 2 at 0'
+
+fresh
+{ put 01fffe; zeros 65534; } >table.bin
+prints 'a field that fills a table of 65,537 bytes' 'refused 1 at 0'
+
+fresh
+{ put 01ffff; zeros 65535; } >table.bin
+prints 'a field that fills a table of 65,538 bytes' 'refused 1 at 0'
+
+fresh
+zeros 200000 >>table.bin
+prints 'a table of 200,048 bytes' 'refused 8 at 48'
+
+# ---- Numbers of several digits
+
+fresh
+{
+    put 10000100
+    for t in {1..120}; do
+        record 12 "$t" 0
+        record 13 "$t" 1
+        record 14 "$t" 0
+    done
+    end 120
+} >journal.bin
+prints 'a tick at each instant' 'accepted end=120 cycles=120 moves=0 state=0 output=0'
+
+# 32 states, inputs and outputs; E is 60,000; state q has output q; input i leads to state i; no holds.
+each=$(printf '%02x' {0..31})
+{
+    put 01000420202000
+    put 0200040000ea60
+    put "030020$each"
+    put 040400
+    for _ in {0..31}; do
+        put "$each"
+    done
+    put 050080
+    zeros 128
+    put 060080
+    zeros 128
+} >"$room/largest.bin"
+
+fresh
+cp "$room/largest.bin" table.bin
+{
+    put 10000100
+    record 11 59998 31
+    record 12 59999 31
+    record 13 59999 1
+    record 14 60000 31
+    end 120000
+} >journal.bin
+prints 'the largest table' 'accepted end=120000 cycles=1 moves=1 state=31 output=31'
+
+echo "$passed passed, $failed failed"
+[ "$failed" -eq 0 ]
