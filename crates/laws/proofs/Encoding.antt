@@ -11,6 +11,7 @@ use Rattle.wire.specs.Field.{byteAt}
 use Rattle.wire.specs.Encode.{Bytes, bytes32, field}
 use Rattle.wire.proofs.Laws.{WholeAt}
 use Rattle.wire.proofs.Bytes.{number-written, field-written, number-read, field-read}
+use Rattle.sets.proofs.Members.{below-limit}
 use Rattle.table.specs.declared.Answer.the-variants.{Passes}
 use Rattle.table.specs.declared.Counts.{Counts}
 use Rattle.table.specs.declared.Table.{Table}
@@ -21,7 +22,6 @@ use Rattle.table.specs.Check.{bytePlace, wordPlace, countsIn, boundIn, inRange,
 use Rattle.table.specs.Check.{headAnswer, entriesAnswer, tableAnswer, tableOf}
 use Rattle.table.proofs.Laws.{first-passes, rest-passes, goes-on, head-stands, head-passes, entries-pass}
 use Rattle.table.proofs.WellFormed.{entries-stand}
-use Rattle.laws.proofs.Sets.{below-power}
 use Rattle.laws.proofs.Rows.{bytes-read, byte-row-read, word-row-read}
 use Rattle.laws.proofs.Rows.{bytes-written, words-written, field-passes, row-passes, row-kept}
 
@@ -108,7 +108,7 @@ encoding-passes t ok =
     let p₃ = row-passes f₃ (bytePlace 14) (t .outputs) (ok .output) in
     let p₄ = row-passes f₄ (bytePlace (nextField c)) q (next-below t ok) in
     let p₅ = row-passes f₅ (wordPlace (holdField c)) 3600001 (λ k h. let low = ok .hold k h in omega arith) in
-    let p₆ = row-passes f₆ (wordPlace (delayedField c)) (2 ^ t .inputs) (λ k h. below-power (delayedOf t k) (t .inputs) (λ i. ok .delayed k i h)) in
+    let p₆ = row-passes f₆ (wordPlace (delayedField c)) (2 ^ t .inputs) (λ k h. below-limit (delayedOf t k) (t .inputs) (λ i. ok .delayed k i h)) in
     let end : length s - tableEnd c ≡ 0 = sym (length-drop (tableEnd c) s) ∙ ap length (f₆ .ends) in
     let entries = entries-pass c s p₃ p₄ p₅ p₆ (omega arith) in
     let k₃ = row-kept f₃ 32 few (ok .output-uses) in
