@@ -2,16 +2,13 @@
 use mathlib.Core.Path.{_≡_, refl, sym, ap, _∙_}
 use mathlib.Core.List.{List, [], _∷_, _++_}
 use mathlib.Core.Bool.{Bool, true, false}
-use Prim.Native.Nat.{ℕ, _+_, _*_, _^_, _<_, _≤_}
-use native.Mathlib.Omega.{arith}
+use Prim.Native.Nat.{ℕ, _*_, _^_, _<_, _≤_}
 use borrow.Author.Tests.{lt-ltb, le-ltb, eq-eqb, ne-eqb, eqb-true, ltb-true, leb-true}
 use types.Run.{OneOf, hit, miss}
 use denote.Enum.Declared.{tagOf}
-use mathlib.Core.Logic.{⊎-elim}
 use lib.ListN.{length, drop}
-use lib.Dec.{eqb}
 use Rattle.wire.specs.Choice.{_=?_, _<?_, _≤?_, _and_, if_then_else_}
-use Rattle.wire.specs.Field.{byteAt, number32At, fieldAt}
+use Rattle.wire.specs.Field.{fieldAt}
 use Rattle.wire.specs.declared.Field.{Field}
 use Rattle.wire.specs.declared.Field.the-variants.{Whole, RunOut}
 use Rattle.wire.proofs.Choice.{never, both}

@@ -1,29 +1,27 @@
 -- A table that passes is well formed.
 use mathlib.Core.Path.{_≡_, refl, sym, ap, _∙_}
-use mathlib.Core.List.{List, [], _++_}
+use mathlib.Core.List.{List}
 use mathlib.Core.Bool.{Bool, true, false}
 use Prim.Native.Nat.{ℕ, zero, suc, _+_, _-_, _*_, _^_, _<_, _≤_}
 use native.Mathlib.Nat.{mul-le-mul}
 use native.Mathlib.Omega.{arith}
 use borrow.Author.Tests.{leb-false, ltb-false}
 use lib.Arith.{digits-lt}
-use lib.Dec.{ltb, eqb}
-use lib.ListN.{length, getD, length-append, length-replicate, List·getD-append, getD-replicate, List·getD-eq-default}
+use lib.Dec.{eqb}
+use lib.ListN.{length, getD, length-append, length-replicate, List·getD-append}
 use lib.Seq.{getD-append-add}
 use Rattle.wire.specs.Choice.{_<?_, _≤?_, if_then_else_}
 use Rattle.wire.proofs.Choice.{never}
 use Rattle.sets.proofs.Members.{member-below}
-use Rattle.table.specs.declared.Answer.{Answer}
 use Rattle.table.specs.declared.Answer.the-variants.{Passes, BytesAfter}
 use Rattle.table.specs.declared.Counts.{Counts}
-use Rattle.table.specs.declared.Table.{Table}
 use Rattle.table.specs.declared.Checked.{Checked}
-use Rattle.table.specs.Answer.{numberOf, _and-then_}
+use Rattle.table.specs.Answer.{numberOf}
 use Rattle.table.specs.Entries.{values, firstFrom, zeros, padded}
 use Rattle.table.specs.Check.{badEntry, entriesBelow, rowAnswer, bytesAnswer, wordsAnswer, byteEntry, wordEntry, fieldAnswer}
 use Rattle.table.specs.Check.{countsIn, headAnswer, entriesAnswer, tableAnswer, nextField, holdField, delayedField, tableEnd, tableOf, checkedAs, checkedOf}
 use Rattle.table.specs.Table.{Uses, WellFormed}
-use Rattle.table.proofs.Laws.{told, first-passes, rest-passes, head-stands, HeadStands}
+use Rattle.table.proofs.Laws.{first-passes, rest-passes, head-stands}
 use Rattle.table.proofs.Values.{none-bad, length-values, getD-values, first-le}
 use Rattle.table.proofs.Rows.{bad-refuses}
 

@@ -1,6 +1,6 @@
 -- The table check, as document 01 orders it: fields in file order, each for 1, 2, then its content; 8 last.
 use mathlib.Core.Path.{_≡_}
-use mathlib.Core.List.{List, [], _++_}
+use mathlib.Core.List.{List, _++_}
 use mathlib.Core.Bool.{Bool}
 use Prim.Native.Nat.{ℕ, _+_, _*_, _^_}
 use lib.ListN.{length, drop}

@@ -3,7 +3,6 @@
 ghost use mathlib.Core.Path.{_≡_};
 ghost use Prim.Native.Nat.{_+_, _*_, _<_, _≤_};
 ghost use lib.ListN.{length, getD};
-ghost use Rattle.wire.specs.Field.{number32At};
 ghost use Rattle.table.specs.Answer.{numberOf, placeOf};
 ghost use Rattle.table.specs.Check.{inRange, countsInRange, headAnswer, countsIn, entriesAnswer, tableOf, tableWith, noTable};
 ghost use Rattle.table.specs.Check.{checkedAs, checkedOf};

@@ -1,5 +1,3 @@
-use mathlib.Core.Path.{sym, _∙_, ap}
-use Rattle.table.specs.Check.{named}
 use Rattle.table.proofs.Laws.{runs-out, wrong-tag, wrong-length, stands}
 use borrow.Author.Needs.{needs}
 use Rattle.table.proofs.fields.expect_field.Statement.{statement}
