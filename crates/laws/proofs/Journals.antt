@@ -36,7 +36,7 @@ use Rattle.laws.proofs.Accepting.{ended-unbroken, run-runs, runs-run, e
 pub reads-written : ReadsWritten
 unfolding itemsOf encode
 reads-written states inputs s input rs end j =
-    let o = opening-written inputs s (encodeRecords rs end) input (j .opens) (j .is) in
+    let o = opening-written 0x10 5 inputs s (encodeRecords rs end) input (j .opens) (j .is) in
     (o .0, items-written states inputs s end (j .in-time) (length s) 4 rs (omega arith) (j .inner) (o .1))
 
 pub records-are-one : RecordsAreOne
@@ -52,7 +52,7 @@ unfolding itemsOf encode
 writes-read states inputs s bytes input opens whole =
     let o = opening-at 0x10 5 inputs s input opens in
     let back = items-read states inputs s bytes (suc (length s)) 4 whole in
-    let is = opening-read inputs s bytes input o ∙ ap (λ l. field 0x10 (input ∷ []) ++ l) (back .bytes-are) in
+    let is = opening-read 0x10 inputs s bytes input o ∙ ap (λ l. field 0x10 (input ∷ []) ++ l) (back .bytes-are) in
     (back .records, back .end, back .is, record { opens = o .in-range; inner = back .inner; in-time = back .in-time; is = is })
 
 -- ---- Acceptance
@@ -67,7 +67,7 @@ module _ (t : Table) (s : List ℕ) (end ticks moves state output : ℕ) where
   abbrev Run : Type 0
   Run = AcceptedRun t s end ticks moves state output
 
-  run-accepted : Run → journalAnswer t s ≡ numbers
+  pub run-accepted : Run → journalAnswer t s ≡ numbers
   unfolding recordsAnswer
   run-accepted a =
       let r = reads-written (t .states) (t .inputs) s (a .input) (a .records) end (a .journal) in
@@ -123,12 +123,12 @@ accepts-exactly t s bytes end ticks moves state output =
 
 -- ---- The entry
 
-no-number : (a : table.Answer) → (numberOf a =? 0) ≡ true → a ≡ Passes
+pub no-number : (a : table.Answer) → (numberOf a =? 0) ≡ true → a ≡ Passes
 unfolding _and-then_
 no-number a e = first-passes a Passes (rw e)
 
 module _ (table s : List ℕ) where
-  under : (t : Table) → WellFormed t → table ≡ tables.encode t → journalAnswer t s ≡ checkOf table s
+  pub under : (t : Table) → WellFormed t → table ≡ tables.encode t → journalAnswer t s ≡ checkOf table s
   under t ok is = table-passed table s (record { answer = Passes; table = t }) (sym (holds-that-table table t ok is)) refl
 
   table-passes : (end ticks moves state output : ℕ) → checkOf table s ≡ Accepted end ticks moves state output → tableAnswer table ≡ Passes

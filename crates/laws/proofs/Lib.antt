@@ -5,3 +5,6 @@ pub mod Timed
 pub mod Records
 pub mod Accepting
 pub mod Journals
+pub mod Stimuli
+pub mod Filling
+pub mod Runtimes

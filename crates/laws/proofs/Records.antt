@@ -5,7 +5,7 @@ use mathlib.Core.Bool.{Bool, true, false}
 use mathlib.Core.Logic.{inl, inr}
 use Prim.Native.Nat.{ℕ, zero, suc, _+_, _-_, _<_, _≤_}
 use native.Mathlib.Omega.{arith}
-use borrow.Author.Tests.{le-ltb, le-leb, leb-true, ltb-false}
+use borrow.Author.Tests.{le-ltb, le-leb, eq-eqb, leb-true, ltb-false}
 use lib.ListN.{length, drop, length-drop, drop-of-length-le}
 use Rattle.wire.specs.Choice.{_<?_, if_then_else_}
 use Rattle.wire.specs.Field.{byteAt, number32At, fieldAt}
@@ -30,14 +30,16 @@ use Rattle.laws.proofs.Timed.{timed-written, timed-read}
 
 -- ---- What was written
 
-pub opening-written : (inputs : ℕ) (s rest : List ℕ) (input : ℕ) → input < inputs → s ≡ field 0x10 (input ∷ []) ++ rest →
-    (openingOf 0x10 5 inputs s ≡ opening.Input input) × (drop 4 s ≡ rest)
+-- The opening field of a journal or of a stimulus.
+pub opening-written : (first inner inputs : ℕ) (s rest : List ℕ) (input : ℕ) → input < inputs → s ≡ field first (input ∷ []) ++ rest →
+    (openingOf first inner inputs s ≡ opening.Input input) × (drop 4 s ≡ rest)
 unfolding lengthFits
-opening-written inputs s rest input below there =
-    let f = field-written s rest (input ∷ []) 0 0x10 1 refl (omega arith) there in
-    let found : fieldAt s 0 ≡ _ = sym (whole-is s 0 0x10 1 (f .whole)) in
+opening-written first inner inputs s rest input below there =
+    let f = field-written s rest (input ∷ []) 0 first 1 refl (omega arith) there in
+    let found : fieldAt s 0 ≡ _ = sym (whole-is s 0 first 1 (f .whole)) in
     let input-is : byteAt s 3 ≡ input = byte-written s _ 3 (f .holds) 3 0 refl in
-    (sym (opening-input 0x10 5 inputs s (fieldAt s 0) refl 0x10 1 found refl refl input (sym input-is) below), f .ends)
+    let fits : lengthFits first inner first 1 ≡ true = simp (eq-eqb first first refl) in
+    (sym (opening-input first inner inputs s (fieldAt s 0) refl first 1 found fits refl input (sym input-is) below), f .ends)
 
 -- A record of eight bytes is read again, and after it comes the rest.
 record ReadAgain (states inputs : ℕ) (s rest : List ℕ) (at : ℕ) (r : Record) : Type 0 where
@@ -107,8 +109,8 @@ placed-once at (r ∷ rs) (r′ ∷ rs′) end end′ e =
 
 -- ---- What is read
 
-pub opening-read : (inputs : ℕ) (s : List ℕ) → Bytes s → (input : ℕ) → OpeningAt 0x10 inputs s input → s ≡ field 0x10 (input ∷ []) ++ drop 4 s
-opening-read inputs s bytes input o = field-read s bytes 0 0x10 1 (o .whole) ∙ rw (byte-read s 3 0 (o .whole .fits), ← o .is)
+pub opening-read : (first inputs : ℕ) (s : List ℕ) → Bytes s → (input : ℕ) → OpeningAt first inputs s input → s ≡ field first (input ∷ []) ++ drop 4 s
+opening-read first inputs s bytes input o = field-read s bytes 0 first 1 (o .whole) ∙ rw (byte-read s 3 0 (o .whole .fits), ← o .is)
 
 -- Four tags have a record of eight bytes.
 four : (P : ℕ → Type 0) → P 0x11 → P 0x12 → P 0x13 → P 0x14 → (tag : ℕ) → 0x11 ≤ tag → tag ≤ 0x14 → P tag

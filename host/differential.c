@@ -1,0 +1,1057 @@
+/* Holds the library against the reference: seeded random tables, stimuli, journals and sets, sound and damaged. For
+ * each case both are called with their own copies of the same bytes, and the value returned and every byte of every
+ * buffer are compared, guard bytes included.
+ *
+ *     differential [CASES [SEED]]
+ *
+ * Prints the first mismatch in full, then how often each entry gave each number; a number that an entry can give
+ * and that stayed away counts as a failure. The last line is `N passed, M failed`; the exit status is 0 if M is 0.
+ *
+ * With SELF defined a second build of the reference (see SECOND in reference.h) stands in for the library. */
+#include "reference.h"
+
+#ifdef SELF
+uint64_t second_check_table(const uint8_t *, size_t);
+uint64_t second_check_journal(const uint8_t *, size_t, const uint8_t *, size_t, uint8_t *, size_t);
+uint64_t second_run(const uint8_t *, size_t, const uint8_t *, size_t, uint8_t *, size_t, uint8_t *, size_t);
+uint64_t second_reaction(const uint8_t *, size_t, uint32_t, uint32_t, uint8_t *, size_t);
+#define krossvil_check_table second_check_table
+#define krossvil_check_journal second_check_journal
+#define krossvil_run second_run
+#define krossvil_reaction second_reaction
+#else
+#include "krossvil.h"
+#endif
+
+#include <inttypes.h>
+#include <stdbool.h>
+#include <stdio.h>
+#include <stdlib.h>
+#include <string.h>
+
+enum { JOURNAL_LIMIT = 65536, STIMULUS_LIMIT = 57344, ROOM = 2 * 65536, MOST_PIECES = 10000 };
+
+/* ---- chance ---- */
+
+static uint64_t chance_state;
+
+static uint64_t draw64(void)
+{
+    uint64_t z = chance_state += 0x9E3779B97F4A7C15u;
+    z = (z ^ z >> 30) * 0xBF58476D1CE4E5B9u;
+    z = (z ^ z >> 27) * 0x94D049BB133111EBu;
+    return z ^ z >> 31;
+}
+
+static void seed_case(uint64_t seed, uint64_t number)
+{
+    chance_state = seed;
+    chance_state = draw64() ^ number * 0xD1342543DE82EF95u;
+}
+
+/* 0..count-1; 0 for a count of 0. */
+static uint32_t below(uint32_t count)
+{
+    return count == 0 ? 0 : (uint32_t)(draw64() % count);
+}
+
+static uint32_t between(uint32_t low, uint32_t high)
+{
+    return low + below(high - low + 1);
+}
+
+static bool percent(unsigned p)
+{
+    return below(100) < p;
+}
+
+static uint32_t low_bits(unsigned count)
+{
+    return count >= 32 ? 0xFFFFFFFFu : ((uint32_t)1 << count) - 1;
+}
+
+/* ---- bytes ---- */
+
+struct bytes {
+    size_t len;
+    uint8_t at[ROOM];
+};
+
+static void add(struct bytes *bytes, unsigned byte)
+{
+    if (bytes->len < ROOM)
+        bytes->at[bytes->len++] = (uint8_t)byte;
+}
+
+static void add4(struct bytes *bytes, uint32_t number)
+{
+    for (int shift = 24; shift >= 0; shift -= 8)
+        add(bytes, number >> shift & 0xFF);
+}
+
+static void head(struct bytes *bytes, unsigned tag, size_t length)
+{
+    add(bytes, tag);
+    add(bytes, (unsigned)(length >> 8 & 0xFF));
+    add(bytes, (unsigned)(length & 0xFF));
+}
+
+/* Damage that knows nothing of fields save where they start. */
+static void damage_bytes(struct bytes *bytes, const size_t *starts, size_t count, size_t limit)
+{
+    size_t start = count == 0 ? 0 : starts[below((uint32_t)count)];
+    if (start + 3 > bytes->len)
+        start = 0;
+    bool headed = bytes->len >= 3;
+    switch (below(11)) {
+    case 0: /* cut anywhere */
+        bytes->len = below((uint32_t)bytes->len + 1);
+        break;
+    case 1: /* cut at a field, or in its head */
+        if (headed)
+            bytes->len = start + below(4);
+        break;
+    case 2: /* the last bytes are missing */
+        bytes->len -= bytes->len == 0 ? 0 : below(bytes->len < 8 ? (uint32_t)bytes->len : 8) + 1u;
+        break;
+    case 3: /* one bit */
+        if (bytes->len > 0)
+            bytes->at[below((uint32_t)bytes->len)] ^= (uint8_t)(1u << below(8));
+        break;
+    case 4: /* one byte */
+        if (bytes->len > 0)
+            bytes->at[below((uint32_t)bytes->len)] = (uint8_t)below(256);
+        break;
+    case 5: /* a length by one, or far off */
+        if (headed && percent(70))
+            bytes->at[start + 2] = (uint8_t)(bytes->at[start + 2] + (percent(50) ? 1 : 255));
+        else if (headed)
+            bytes->at[start + 1 + below(2)] = percent(50) ? 0xFF : (uint8_t)below(256);
+        break;
+    case 6: /* a tag: by one, of the other family, any */
+        if (headed)
+            bytes->at[start] = (uint8_t)(percent(40)   ? bytes->at[start] + (percent(50) ? 1u : 255u)
+                                         : percent(50) ? bytes->at[start] ^ 0x30u
+                                                       : below(256));
+        break;
+    case 7: /* a few bytes more */
+        for (uint32_t more = between(1, 10); more > 0; more--)
+            add(bytes, below(percent(50) ? 256 : 1));
+        break;
+    case 8: /* many bytes more, around the limit */
+        if (percent(35)) {
+            size_t wanted = limit - 2 + below(6);
+            while (bytes->len < wanted)
+                add(bytes, 0x11);
+        } else {
+            add(bytes, below(256));
+        }
+        break;
+    case 9: /* a byte taken out */
+        if (bytes->len > 0) {
+            size_t at = below((uint32_t)bytes->len);
+            memmove(bytes->at + at, bytes->at + at + 1, bytes->len - at - 1);
+            bytes->len--;
+        }
+        break;
+    case 10: /* a byte put in */
+        if (bytes->len < ROOM) {
+            size_t at = below((uint32_t)bytes->len + 1);
+            memmove(bytes->at + at + 1, bytes->at + at, bytes->len - at);
+            bytes->at[at] = (uint8_t)below(256);
+            bytes->len++;
+        }
+        break;
+    }
+}
+
+/* ---- tables ---- */
+
+struct plan {
+    unsigned q, i, o, initial;
+    uint32_t bound;
+    uint32_t output[33], next[33][33], hold[33], delayed[33];
+};
+
+static unsigned draw_count(void)
+{
+    static const unsigned corners[] = { 1, 2, 3, 4, 31, 32 };
+    return percent(75) ? corners[below(percent(60) ? 4 : 6)] : between(1, 32);
+}
+
+static uint32_t draw_bound(void)
+{
+    static const uint32_t corners[] = { 1, 2, 3, 200, 59999, 60000 };
+    return percent(45) ? corners[below(6)] : percent(70) ? between(1, 12) : between(1, 60000);
+}
+
+static uint32_t draw_hold(uint32_t bound)
+{
+    if (percent(25))
+        return 0;
+    if (percent(5))
+        return 3600000 - below(2);
+    if (percent(5))
+        return below(3600001);
+    uint32_t hold = percent(50) ? between(1, 3) * bound + below(3) : between(1, 6 * bound);
+    return hold > 3600000 ? 3600000 : hold;
+}
+
+static uint32_t draw_set(unsigned count)
+{
+    uint32_t all = low_bits(count);
+    switch (below(6)) {
+    case 0: return 0;
+    case 1: return all;
+    case 2: return (uint32_t)1 << below(count);
+    case 3: return (uint32_t)1 << (count - 1);
+    case 4: return (uint32_t)draw64() & (uint32_t)draw64() & all;
+    default: return (uint32_t)draw64() & all;
+    }
+}
+
+static void draw_plan(struct plan *plan)
+{
+    memset(plan, 0, sizeof *plan);
+    plan->q = draw_count();
+    plan->i = draw_count();
+    plan->o = draw_count();
+    plan->initial = percent(30) ? plan->q - 1 : below(plan->q);
+    plan->bound = draw_bound();
+    unsigned stay = below(3) * 30;                            /* percent of self-loops */
+    unsigned span = percent(70) ? plan->q : 1 + below(plan->q); /* next states come from these */
+    bool dense = percent(50);
+    for (unsigned s = 0; s < plan->q; s++) {
+        plan->output[s] = percent(20) ? plan->o - 1 : below(plan->o);
+        for (unsigned a = 0; a < plan->i; a++)
+            plan->next[s][a] = percent(stay) ? s : percent(10) ? plan->q - 1 : below(span);
+        plan->hold[s] = draw_hold(plan->bound);
+        plan->delayed[s] = dense && percent(70) ? low_bits(plan->i) : draw_set(plan->i);
+    }
+}
+
+/* One entry out of range, or two. */
+static void damage_plan(struct plan *plan)
+{
+    static const uint32_t holds[] = { 3600001, 3600002, 0x00FFFFFF, 0x80000000u, 0xFFFFFFFFu, 0x0136EE80u };
+    static const uint32_t bounds[] = { 0, 60001, 65536, 0x01000001u, 0xFFFFFFFFu };
+    unsigned s = below(plan->q), a = below(plan->i);
+    switch (below(9)) {
+    case 0: plan->q = percent(40) ? 0 : percent(70) ? 33 : between(33, 255); break;
+    case 1: plan->i = percent(40) ? 0 : percent(70) ? 33 : between(33, 255); break;
+    case 2: plan->o = percent(40) ? 0 : percent(70) ? 33 : between(33, 255); break;
+    case 3: plan->initial = percent(70) ? plan->q : between(plan->q, 255); break;
+    case 4: plan->bound = bounds[below(5)]; break;
+    case 5: plan->output[s] = percent(70) ? plan->o : 255; break;
+    case 6: plan->next[s][a] = percent(70) ? plan->q : 255; break;
+    case 7: plan->hold[s] = holds[below(6)]; break;
+    case 8:
+        if (plan->i < 32)
+            plan->delayed[s] |= (uint32_t)1 << (percent(40) ? plan->i : percent(50) ? 31 : between(plan->i, 31));
+        break;
+    }
+}
+
+/* `starts` takes six places. A damaged count goes into field 01; the other fields keep the old size half the time. */
+static void write_table(const struct plan *plan, unsigned q, unsigned i, struct bytes *bytes, size_t *starts)
+{
+    bytes->len = 0;
+    starts[0] = bytes->len;
+    head(bytes, 0x01, 4);
+    add(bytes, plan->q);
+    add(bytes, plan->i);
+    add(bytes, plan->o);
+    add(bytes, plan->initial);
+    starts[1] = bytes->len;
+    head(bytes, 0x02, 4);
+    add4(bytes, plan->bound);
+    starts[2] = bytes->len;
+    head(bytes, 0x03, q);
+    for (unsigned s = 0; s < q; s++)
+        add(bytes, plan->output[s]);
+    starts[3] = bytes->len;
+    head(bytes, 0x04, (size_t)q * i);
+    for (unsigned s = 0; s < q; s++)
+        for (unsigned a = 0; a < i; a++)
+            add(bytes, plan->next[s][a]);
+    starts[4] = bytes->len;
+    head(bytes, 0x05, 4 * (size_t)q);
+    for (unsigned s = 0; s < q; s++)
+        add4(bytes, plan->hold[s]);
+    starts[5] = bytes->len;
+    head(bytes, 0x06, 4 * (size_t)q);
+    for (unsigned s = 0; s < q; s++)
+        add4(bytes, plan->delayed[s]);
+}
+
+static void draw_table(struct plan *plan, struct bytes *bytes, bool damaged)
+{
+    size_t starts[6];
+    draw_plan(plan);
+    struct plan written = *plan;
+    if (damaged && percent(60)) {
+        damage_plan(&written); /* a second time only while the counts stand: it draws within them */
+        if (percent(25) && written.q == plan->q && written.i == plan->i)
+            damage_plan(&written);
+        damaged = percent(25);
+    }
+    bool follow = percent(50);
+    write_table(&written, follow && written.q <= 33 ? written.q : plan->q,
+                follow && written.i <= 33 ? written.i : plan->i, bytes, starts);
+    if (damaged) {
+        if (percent(20)) { /* a field or more is missing */
+            size_t from = starts[below(6)], to = starts[below(6)];
+            if (from < to) {
+                memmove(bytes->at + from, bytes->at + to, bytes->len - to);
+                bytes->len -= to - from;
+            }
+        }
+        damage_bytes(bytes, starts, 6, JOURNAL_LIMIT);
+    }
+}
+
+/* ---- journals and stimuli ---- */
+
+enum kind { OPENING, CHANGE, POLL, TEST, TICK, END };
+
+struct piece {
+    enum kind kind;
+    uint32_t time, value;
+    uint32_t latest;   /* when it was drawn: cycle start + E */
+    uint32_t hold_end; /* when it was drawn: entry + hold */
+};
+
+static struct piece pieces[MOST_PIECES];
+static size_t piece_count;
+static size_t piece_starts[MOST_PIECES];
+
+static void write_pieces(unsigned family, struct bytes *bytes)
+{
+    static const unsigned tags[] = { 0x0, 0x1, 0x2, 0x3, 0x4, 0xF };
+    bytes->len = 0;
+    for (size_t k = 0; k < piece_count; k++) {
+        const struct piece *piece = &pieces[k];
+        bool timed = piece->kind != OPENING;
+        bool valued = piece->kind <= CHANGE || (piece->kind != END && family == 0x10);
+        piece_starts[k] = bytes->len;
+        head(bytes, family | tags[piece->kind], (timed ? 4u : 0u) + (valued ? 1u : 0u));
+        if (timed)
+            add4(bytes, piece->time);
+        if (valued)
+            add(bytes, piece->value);
+    }
+}
+
+static uint32_t draw_time(uint32_t low, uint32_t high)
+{
+    if (low >= high)
+        return low;
+    switch (below(8)) {
+    case 0:
+    case 1: return low;
+    case 2: return low + 1;
+    case 3: return high;
+    case 4: return high - low > 4 ? low + between(1, 4) : high;
+    default: return between(low, high);
+    }
+}
+
+/* As draw_time, but likely at the end of the hold where that can be had. */
+static uint32_t draw_time_near(uint32_t low, uint32_t high, uint32_t hold_end)
+{
+    uint32_t wanted = hold_end + below(2);
+    if (wanted >= low && wanted <= high && percent(60))
+        return wanted;
+    return draw_time(low, high);
+}
+
+/* A stimulus that passes, of at most `limit` bytes, and of just that many if `limit` is reached. What the machine does
+ * is followed here only to draw telling times. */
+static void draw_stimulus(const struct plan *plan, unsigned cycles, size_t limit, unsigned changes)
+{
+    unsigned phase = 0, state = plan->initial, input = below(plan->i), polled = input;
+    uint32_t now = 0, last_change = 0, entry = 0, start = 0, ticks = 0;
+    size_t room = limit - 4 - 7;
+    bool lazy = percent(30); /* long cycles */
+    pieces[0] = (struct piece){ .kind = OPENING, .value = input };
+    piece_count = 1;
+    unsigned stop_phase = below(4);
+    for (;;) {
+        uint32_t high = start + plan->bound, hold_end = entry + plan->hold[state];
+        struct piece piece = { .latest = high, .hold_end = hold_end };
+        if (room < 7 || piece_count + 2 >= MOST_PIECES || (ticks >= cycles && phase >= stop_phase))
+            break;
+        bool change = percent(changes);
+        if (room < 120)
+            change = room % 7 != 0;
+        if (phase == 0 && now >= high)
+            change = false; /* else no poll could follow */
+        if (change && room >= 8) {
+            piece.kind = CHANGE;
+            piece.time = draw_time(now, phase == 0 ? high - 1 : high);
+            piece.value = percent(25) ? input : below(plan->i);
+            input = piece.value;
+            last_change = piece.time;
+            room -= 8;
+        } else if (phase == 0) {
+            uint32_t low = now;
+            if (low <= last_change)
+                low = last_change + 1;
+            if (low <= start)
+                low = start + 1;
+            if (low > high)
+                break;
+            piece.kind = POLL;
+            piece.time = draw_time_near(low, high, hold_end);
+            polled = piece.value = input;
+            phase = 1;
+            room -= 7;
+        } else if (phase == 1) {
+            piece.kind = TEST;
+            piece.time = draw_time_near(now, high, hold_end);
+            bool held = plan->hold[state] > 0 && (plan->delayed[state] >> polled & 1) && piece.time <= hold_end;
+            piece.value = held ? 0 : 1;
+            phase = held ? 2 : 3;
+            room -= 7;
+        } else {
+            piece.kind = TICK;
+            piece.time = lazy ? high : draw_time_near(now, high, hold_end);
+            if (phase == 3 && plan->next[state][polled] != state) {
+                state = plan->next[state][polled];
+                entry = piece.time;
+            }
+            piece.value = state;
+            start = piece.time;
+            phase = 0;
+            ticks++;
+            room -= 7;
+        }
+        now = piece.time;
+        pieces[piece_count++] = piece;
+    }
+    uint32_t high = start + plan->bound;
+    pieces[piece_count++] = (struct piece){
+        .kind = END, .time = draw_time(now, high), .latest = high, .hold_end = entry + plan->hold[state]
+    };
+}
+
+static void damage_time(struct piece *piece, uint32_t before)
+{
+    switch (below(12)) {
+    case 0: piece->time++; break;
+    case 1: piece->time--; break;
+    case 2: piece->time = piece->latest; break;
+    case 3:
+    case 4: piece->time = piece->latest + 1; break;
+    case 5: piece->time = piece->hold_end; break;
+    case 6: piece->time = piece->hold_end + 1; break;
+    case 7: piece->time = before; break;
+    case 8: piece->time = before - 1; break;
+    case 9: piece->time = percent(50) ? 0 : below(1000); break;
+    case 10: piece->time = 2000000000 + below(2); break;
+    case 11: piece->time = percent(50) ? 0xFFFFFFFFu : (uint32_t)draw64(); break;
+    }
+}
+
+static void damage_value(struct piece *piece, const struct plan *plan)
+{
+    uint32_t count = piece->kind == TEST ? 2 : piece->kind == TICK ? plan->q : plan->i;
+    piece->value = percent(50) ? below(count) : percent(50) ? (piece->value + 1) % count : percent(70) ? count : 255;
+}
+
+static void insert_piece(size_t at, struct piece piece)
+{
+    if (piece_count >= MOST_PIECES)
+        return;
+    memmove(pieces + at + 1, pieces + at, (piece_count - at) * sizeof *pieces);
+    pieces[at] = piece;
+    piece_count++;
+}
+
+static void remove_piece(size_t at)
+{
+    memmove(pieces + at, pieces + at + 1, (piece_count - at - 1) * sizeof *pieces);
+    piece_count--;
+}
+
+static void damage_pieces(const struct plan *plan)
+{
+    if (piece_count < 2)
+        return;
+    /* Late records tell the most: what comes before them has to pass. */
+    size_t k = percent(25) ? piece_count - 1 : between(1, (uint32_t)piece_count - 1);
+    size_t poll = k; /* the last poll up to there, or the record itself */
+    for (size_t back = k; back > 0 && pieces[poll].kind != POLL; back--)
+        if (pieces[back].kind == POLL)
+            poll = back;
+    switch (below(14)) {
+    case 0:
+    case 1:
+    case 2:
+    case 3: damage_time(&pieces[k], pieces[k - 1].time); break;
+    case 4:
+    case 5: damage_value(&pieces[percent(10) ? 0 : k], plan); break;
+    case 6: { /* two records change places */
+        size_t other = percent(70) ? k - 1 : below((uint32_t)piece_count);
+        struct piece piece = pieces[k];
+        pieces[k] = pieces[other];
+        pieces[other] = piece;
+        if (percent(50)) { /* but the times stay */
+            uint32_t time = pieces[k].time;
+            pieces[k].time = pieces[other].time;
+            pieces[other].time = time;
+        }
+        break;
+    }
+    case 7: remove_piece(percent(15) ? 0 : k); break;
+    case 8: insert_piece(k, pieces[percent(15) ? 0 : k]); break;
+    case 9: { /* a second opening, or an end too soon */
+        struct piece piece = pieces[k];
+        piece.kind = percent(50) ? OPENING : END;
+        if (percent(40))
+            damage_value(&piece, plan);
+        if (percent(20))
+            damage_time(&piece, pieces[k - 1].time);
+        insert_piece(percent(10) ? 0 : k, piece);
+        break;
+    }
+    case 10: pieces[k].kind = (enum kind)below(6); break;
+    case 11: /* a change at the instant of the record after, or before */
+        insert_piece(k, (struct piece){ .kind = CHANGE,
+                                        .time = pieces[percent(50) ? k : k - 1].time,
+                                        .value = below(plan->i),
+                                        .latest = pieces[k].latest,
+                                        .hold_end = pieces[k].hold_end });
+        break;
+    case 12: /* a poll at the instant of the change or tick before it */
+        pieces[poll].time = pieces[poll - 1].time;
+        break;
+    case 13: { /* a change that changes nothing, at the instant of the poll */
+        struct piece piece = pieces[poll];
+        piece.kind = CHANGE;
+        insert_piece(poll, piece);
+        break;
+    }
+    }
+}
+
+/* ---- one case ---- */
+
+enum entry { CHECK_TABLE, CHECK_JOURNAL, RUN, REACTION, ENTRIES };
+
+static const char *const entry_names[ENTRIES] = { "check_table", "check_journal", "run", "reaction" };
+static const size_t answer_sizes[ENTRIES] = { 0, 20, 4, 8 };
+
+struct call {
+    enum entry entry;
+    const struct bytes *table, *input; /* input: journal or stimulus */
+    uint32_t states, inputs;
+    size_t journal_len, answer_len;
+};
+
+enum { GUARD = 64 };
+
+struct lent {
+    size_t len, before; /* guard bytes before it: their number shifts it by a few bytes */
+    uint8_t salt;
+    uint8_t at[ROOM + 2 * GUARD];
+};
+
+struct side {
+    uint64_t returned;
+    bool inputs_kept;
+    struct lent journal, answer;
+};
+
+static struct side reference_side, library_side;
+
+static uint8_t fill(uint8_t salt, size_t at)
+{
+    return (uint8_t)(salt + 37 * at + (at >> 8));
+}
+
+static void lend(struct lent *lent, size_t len, size_t before, uint8_t salt)
+{
+    lent->len = len;
+    lent->before = before;
+    lent->salt = salt;
+    for (size_t k = 0; k < len + 2 * GUARD; k++)
+        lent->at[k] = fill(salt, k);
+}
+
+/* The first byte that differs from what was lent, from byte `from` of the buffer on, or in the guard; SIZE_MAX: none. */
+static size_t touched(const struct lent *lent, size_t from)
+{
+    for (size_t k = 0; k < lent->len + 2 * GUARD; k++)
+        if ((k < lent->before || k >= lent->before + from) && lent->at[k] != fill(lent->salt, k))
+            return k;
+    return SIZE_MAX;
+}
+
+/* Of just the size, so that a sanitizer sees a byte too many. */
+static uint8_t *copied(const struct bytes *bytes)
+{
+    uint8_t *copy = malloc(bytes->len);
+    if (copy == NULL && bytes->len > 0) {
+        fprintf(stderr, "no memory\n");
+        exit(2);
+    }
+    if (bytes->len > 0)
+        memcpy(copy, bytes->at, bytes->len);
+    return copy;
+}
+
+static void call_side(const struct call *call, bool library, struct side *side)
+{
+    uint8_t *table = copied(call->table), *input = copied(call->input);
+    size_t table_len = call->table->len, input_len = call->input->len;
+    uint8_t *journal = side->journal.at + side->journal.before, *answer = side->answer.at + side->answer.before;
+    size_t journal_len = call->journal_len, answer_len = call->answer_len;
+    switch (call->entry) {
+    case CHECK_TABLE:
+        side->returned = (library ? krossvil_check_table : reference_check_table)(table, table_len);
+        break;
+    case CHECK_JOURNAL:
+        side->returned = (library ? krossvil_check_journal : reference_check_journal)(table, table_len, input,
+                                                                                      input_len, answer, answer_len);
+        break;
+    case RUN:
+        side->returned = (library ? krossvil_run : reference_run)(table, table_len, input, input_len, journal,
+                                                                  journal_len, answer, answer_len);
+        break;
+    default:
+        side->returned = (library ? krossvil_reaction : reference_reaction)(table, table_len, call->states,
+                                                                            call->inputs, answer, answer_len);
+        break;
+    }
+    side->inputs_kept = (table_len == 0 || memcmp(table, call->table->at, table_len) == 0) &&
+                        (input_len == 0 || memcmp(input, call->input->at, input_len) == 0);
+    free(table);
+    free(input);
+}
+
+static uint32_t answer_number(const struct lent *answer, size_t k)
+{
+    const uint8_t *at = answer->at + answer->before + 4 * k;
+    return (uint32_t)at[0] << 24 | (uint32_t)at[1] << 16 | (uint32_t)at[2] << 8 | at[3];
+}
+
+/* What must hold of one side by itself: a refusal changes nothing, a success nothing past the answer. */
+static const char *broken(const struct call *call, const struct side *side)
+{
+    bool success = side->returned == 0;
+    if (!side->inputs_kept)
+        return "bytes that were only read have changed";
+    size_t answer_size = success ? answer_sizes[call->entry] : 0;
+    if (answer_size > call->answer_len)
+        return "success with an answer buffer too short";
+    if (touched(&side->answer, answer_size) != SIZE_MAX)
+        return "the answer buffer or its guard has changed where it may not";
+    size_t written = success && call->entry == RUN ? answer_number(&side->answer, 0) : 0;
+    if (written > call->journal_len)
+        return "success with a journal buffer too short";
+    if (touched(&side->journal, written) != SIZE_MAX)
+        return "the journal buffer or its guard has changed where it may not";
+    return NULL;
+}
+
+static size_t differs_at(const struct lent *a, const struct lent *b)
+{
+    for (size_t k = 0; k < a->len + 2 * GUARD; k++)
+        if (a->at[k] != b->at[k])
+            return k;
+    return SIZE_MAX;
+}
+
+static uint64_t passed, mismatches;
+static uint64_t histogram[ENTRIES][32], other_numbers;
+
+static void print_bytes(const char *name, const uint8_t *bytes, size_t len)
+{
+    printf("  %s, %zu bytes:", name, len);
+    for (size_t k = 0; k < len; k++)
+        printf("%s%02X", k % 32 == 0 ? "\n    " : " ", bytes[k]);
+    printf("\n");
+}
+
+static void print_returned(const char *name, uint64_t returned)
+{
+    printf("  %s returned %" PRIu64 " (number %" PRIu64 ", place %" PRIu64 ")\n", name, returned, returned >> 32,
+           returned & 0xFFFFFFFFu);
+}
+
+static void print_lent(const char *name, const struct lent *reference, const struct lent *library)
+{
+    size_t at = differs_at(reference, library);
+    if (at != SIZE_MAX)
+        printf("  %s buffer differs first at %ld: reference %02X, library %02X\n", name,
+               (long)at - (long)reference->before, reference->at[at], library->at[at]);
+}
+
+static void print_case(const char *label, const struct call *call, const char *reason)
+{
+    printf("first mismatch: %s, entry %s: %s\n", label, entry_names[call->entry], reason);
+    print_returned("reference", reference_side.returned);
+    print_returned("library", library_side.returned);
+    print_lent("answer", &reference_side.answer, &library_side.answer);
+    print_lent("journal", &reference_side.journal, &library_side.journal);
+    print_bytes("table", call->table->at, call->table->len);
+    if (call->entry == CHECK_JOURNAL || call->entry == RUN)
+        print_bytes(call->entry == RUN ? "stimulus" : "journal", call->input->at, call->input->len);
+    if (call->entry == REACTION)
+        printf("  states %08" PRIX32 ", inputs %08" PRIX32 "\n", call->states, call->inputs);
+    if (call->entry == RUN) {
+        printf("  journal buffer of %zu bytes\n", call->journal_len);
+        if (reference_side.returned == 0)
+            print_bytes("reference's journal", reference_side.journal.at + reference_side.journal.before,
+                        answer_number(&reference_side.answer, 0));
+    }
+    if (call->entry != CHECK_TABLE) {
+        print_bytes("reference's answer buffer", reference_side.answer.at + reference_side.answer.before,
+                    call->answer_len);
+        print_bytes("library's answer buffer", library_side.answer.at + library_side.answer.before, call->answer_len);
+    }
+}
+
+/* Calls both sides and compares; `wanted`, if given, is what the paper says: the value, then the numbers. */
+static void compare(const char *label, const struct call *call, const uint64_t *wanted)
+{
+    size_t before = GUARD - below(8);
+    uint8_t salt = (uint8_t)below(256);
+    lend(&reference_side.journal, call->journal_len, before, salt);
+    lend(&library_side.journal, call->journal_len, before, salt);
+    lend(&reference_side.answer, call->answer_len, before, salt);
+    lend(&library_side.answer, call->answer_len, before, salt);
+    call_side(call, false, &reference_side);
+    call_side(call, true, &library_side);
+
+    const char *reason = NULL;
+    if (reference_side.returned != library_side.returned)
+        reason = "the values returned differ";
+    else if (differs_at(&reference_side.answer, &library_side.answer) != SIZE_MAX)
+        reason = "the answer buffers differ";
+    else if (differs_at(&reference_side.journal, &library_side.journal) != SIZE_MAX)
+        reason = "the journal buffers differ";
+    if (reason == NULL)
+        reason = broken(call, &reference_side);
+    if (reason == NULL)
+        reason = broken(call, &library_side);
+    if (reason == NULL && wanted != NULL) {
+        if (library_side.returned != wanted[0])
+            reason = "both differ from the paper";
+        for (size_t k = 0; reason == NULL && wanted[0] == 0 && k < answer_sizes[call->entry] / 4; k++)
+            if (answer_number(&library_side.answer, k) != wanted[1 + k])
+                reason = "both differ from the paper";
+    }
+
+    uint64_t number = library_side.returned >> 32;
+    if (library_side.returned != 0 && number == 0)
+        number = 31;
+    if (number < 31)
+        histogram[call->entry][number]++;
+    else
+        other_numbers++;
+    if (reason == NULL) {
+        passed++;
+    } else {
+        if (mismatches == 0)
+            print_case(label, call, reason);
+        mismatches++;
+    }
+}
+
+/* ---- random cases ---- */
+
+static struct bytes table, input, scratch;
+
+static uint32_t draw_states(const struct plan *plan, uint32_t inputs)
+{
+    uint32_t states = draw_set(plan->q);
+    if (percent(30))
+        states = low_bits(plan->q);
+    if (percent(70)) { /* closed under next, so that there is a reaction time */
+        for (unsigned round = 0; round < plan->q; round++)
+            for (unsigned p = 0; p < plan->q; p++)
+                for (unsigned a = 0; a < plan->i; a++)
+                    if ((states >> p & 1) && (inputs >> a & 1))
+                        states |= (uint32_t)1 << plan->next[p][a];
+    }
+    return states;
+}
+
+static uint32_t beyond(uint32_t set, unsigned count)
+{
+    if (count < 32)
+        set |= (uint32_t)1 << (percent(50) ? count : percent(50) ? 31 : between(count, 31));
+    return set;
+}
+
+static size_t draw_answer_len(size_t exact)
+{
+    if (exact > 0 && percent(8))
+        return percent(50) ? exact - 1 : below((uint32_t)exact);
+    return percent(50) ? exact : exact + between(1, 40);
+}
+
+static size_t draw_journal_len(size_t exact)
+{
+    if (exact > 0 && percent(18))
+        return percent(50) ? exact - 1 : below((uint32_t)exact);
+    return percent(40) ? exact : percent(95) ? exact + between(1, 100) : JOURNAL_LIMIT + below(100);
+}
+
+/* The journal of the stimulus in `input`, by the reference, goes into the values of the pieces. */
+static void take_values(const struct bytes *sound_table)
+{
+    uint8_t length[4];
+    if (reference_run(sound_table->at, sound_table->len, input.at, input.len, scratch.at, ROOM, length, 4) != 0)
+        return;
+    size_t at = 0;
+    for (size_t k = 0; k < piece_count; k++) {
+        size_t size = pieces[k].kind == OPENING ? 4 : pieces[k].kind == END ? 7 : 8;
+        at += size;
+        if (size != 7)
+            pieces[k].value = scratch.at[at - 1];
+    }
+}
+
+static void draw_input(const struct plan *plan, enum entry entry)
+{
+    static struct bytes sound;
+    size_t starts[6];
+    unsigned family = entry == RUN ? 0x20 : 0x10;
+    size_t limit = entry == RUN ? STIMULUS_LIMIT : JOURNAL_LIMIT;
+
+    if (percent(3)) { /* as long as may be, or a little longer */
+        size_t most = percent(60) ? STIMULUS_LIMIT - below(percent(50) ? 1 : 30) : STIMULUS_LIMIT + below(12);
+        draw_stimulus(plan, 1000000, most, percent(50) ? 0 : below(60));
+    } else {
+        unsigned cycles = percent(40) ? below(4) : percent(70) ? below(20) : below(120);
+        draw_stimulus(plan, cycles, STIMULUS_LIMIT, percent(30) ? 0 : below(60));
+    }
+    write_pieces(0x20, &input);
+    if (family == 0x10) {
+        write_table(plan, plan->q, plan->i, &sound, starts);
+        take_values(&sound);
+    }
+
+    unsigned damages = percent(30) ? 0 : percent(75) ? 1 : 2;
+    bool coarse = percent(40);
+    for (unsigned k = 0; k < damages && !coarse; k++)
+        damage_pieces(plan);
+    write_pieces(family, &input);
+    for (unsigned k = 0; k < damages && coarse; k++)
+        damage_bytes(&input, piece_starts, piece_count, limit);
+    if (input.len > 60000 && percent(30)) { /* around the longest journal */
+        size_t wanted = limit - 2 + below(5);
+        while (input.len < wanted)
+            add(&input, below(256));
+    }
+}
+
+static void random_case(uint64_t seed, uint64_t number)
+{
+    static struct plan plan;
+    struct call call = { .table = &table, .input = &input };
+    uint32_t lot;
+    char label[64];
+
+    seed_case(seed, number);
+    snprintf(label, sizeof label, "case %" PRIu64 " of seed %" PRIu64, number, seed);
+    lot = below(100);
+    call.entry = lot < 20 ? CHECK_TABLE : lot < 50 ? CHECK_JOURNAL : lot < 80 ? RUN : REACTION;
+    draw_table(&plan, &table, percent(call.entry == CHECK_TABLE ? 65 : 8));
+    input.len = 0;
+    if (call.entry == CHECK_JOURNAL || call.entry == RUN)
+        draw_input(&plan, call.entry);
+    if (call.entry == REACTION) {
+        call.inputs = percent(25) ? low_bits(plan.i) : draw_set(plan.i);
+        call.states = draw_states(&plan, call.inputs);
+        if (percent(8))
+            call.states = beyond(call.states, plan.q);
+        if (percent(8))
+            call.inputs = beyond(call.inputs, plan.i);
+        if (percent(4))
+            call.states = (uint32_t)draw64();
+    }
+    if (call.entry == RUN) {
+        uint8_t length[4];
+        size_t exact = below(300);
+        if (reference_run(table.at, table.len, input.at, input.len, scratch.at, ROOM, length, 4) == 0)
+            exact = (size_t)length[1] << 16 | (size_t)length[2] << 8 | length[3];
+        call.journal_len = draw_journal_len(exact);
+    }
+    call.answer_len = call.entry == CHECK_TABLE ? 0 : draw_answer_len(answer_sizes[call.entry]);
+    compare(label, &call, NULL);
+}
+
+/* ---- the paper's cases ---- */
+
+#define REFUSED(number, place) ((uint64_t)(number) << 32 | (place))
+
+static struct plan classroom(void)
+{
+    struct plan plan = { .q = 2, .i = 2, .o = 2, .bound = 3, .output = { 0, 1 }, .hold = { 0, 5 }, .delayed = { 0, 1 } };
+    plan.next[0][1] = plan.next[1][1] = 1;
+    return plan;
+}
+
+/* A journal is written as kinds, with time and value for each: "I0 c1,1 p2,1 t2,1 k3,1 e12". */
+static void read_pieces(const char *text)
+{
+    static const char letters[] = "Icptke";
+    piece_count = 0;
+    while (*text != '\0') {
+        char letter = *text++;
+        char *end;
+        struct piece piece = { .kind = (enum kind)(strchr(letters, letter) - letters) };
+        uint32_t number = (uint32_t)strtoul(text, &end, 10);
+        if (piece.kind == OPENING)
+            piece.value = number;
+        else
+            piece.time = number;
+        if (*end == ',')
+            piece.value = (uint32_t)strtoul(end + 1, &end, 10);
+        pieces[piece_count++] = piece;
+        text = *end == ' ' ? end + 1 : end;
+    }
+}
+
+static void paper_cases(void)
+{
+#define RUN_TO_3 "I0 c1,1 p2,1 t2,1 k3,1 c3,0 p5,0 t5,0 k6,1 "
+    static const struct {
+        const char *journal;
+        uint64_t wanted[6];
+    } journals[] = {
+        { RUN_TO_3 "p7,0 t8,0 k9,1 p10,0 t10,1 k11,0 e12", { 0, 12, 4, 2, 0, 0 } },
+        { RUN_TO_3 "p7,0 t8,1 k9,1 p10,0 t10,1 k11,0 e12", { REFUSED(28, 76) } },
+        { "I0 e0", { 0, 0, 0, 0, 0, 0 } },
+        { "", { REFUSED(20, 0) } },
+        { RUN_TO_3 "p7,0 t8,0 e8", { 0, 8, 2, 1, 1, 1 } },
+        { RUN_TO_3 "p7,0 t9,1 e9", { 0, 9, 2, 1, 1, 1 } },
+        { RUN_TO_3 "p7,0 t9,0 e9", { REFUSED(28, 76) } },
+        { "I0 p1,0 t1,1 k3,0 e3", { 0, 3, 1, 0, 0, 0 } },
+        { "I0 p1,0 t1,1 k4,0 e4", { REFUSED(25, 20) } },
+        { "I0 c1,1 p1,1 e1", { REFUSED(27, 12) } },
+        { "I0 p1,0 c1,1 e1", { 0, 1, 0, 0, 0, 0 } },
+    };
+    static const struct {
+        uint32_t states, inputs;
+        uint64_t wanted[3];
+    } sets[] = {
+        { 3, 1, { 0, 14, 1 } },       { 3, 2, { 0, 6, 2 } }, { 2, 1, { REFUSED(10, 2) } },
+        { 2, 2, { 0, 3, 2 } },        { 0, 1, { 0, 3, 0 } }, { 4, 1, { REFUSED(9, 0) } },
+        { 3, 4, { REFUSED(9, 1) } },
+    };
+    struct plan plan = classroom();
+    size_t starts[6];
+    struct call call = { .table = &table, .input = &input, .answer_len = 24 };
+    char label[64];
+
+    write_table(&plan, 2, 2, &table, starts);
+    call.entry = CHECK_TABLE;
+    compare("classroom table", &call, (const uint64_t[]){ 0 });
+    for (size_t k = 0; k < sizeof journals / sizeof *journals; k++) {
+        snprintf(label, sizeof label, "paper's journal %zu", k);
+        read_pieces(journals[k].journal);
+        call.entry = CHECK_JOURNAL;
+        write_pieces(0x10, &input);
+        compare(label, &call, journals[k].wanted);
+        if (k == 0) {
+            uint64_t length = input.len;
+            struct bytes *journal = &scratch;
+            memcpy(journal, &input, sizeof input);
+            call.entry = RUN;
+            call.journal_len = 200;
+            write_pieces(0x20, &input);
+            compare("paper's stimulus", &call, (const uint64_t[]){ 0, length });
+            bool same = table.len == 48 && length == 123 && input.len == 111 &&
+                        memcmp(library_side.journal.at + library_side.journal.before, journal->at, length) == 0;
+            if (same) {
+                passed++;
+            } else {
+                printf("the paper's run: the runtime's journal or a length differs\n");
+                mismatches++;
+            }
+            call.journal_len = 0;
+        }
+    }
+    call.entry = REACTION;
+    input.len = 0;
+    for (size_t k = 0; k < sizeof sets / sizeof *sets; k++) {
+        snprintf(label, sizeof label, "paper's sets %zu", k);
+        call.states = sets[k].states;
+        call.inputs = sets[k].inputs;
+        compare(label, &call, sets[k].wanted);
+    }
+}
+
+/* ---- the whole ---- */
+
+static bool can_give(enum entry entry, unsigned number)
+{
+    if (number <= 8)
+        return true; /* success and the table's */
+    switch (entry) {
+    case CHECK_JOURNAL: return (number >= 19 && number <= 28) || number == 30;
+    case RUN: return (number >= 19 && number <= 27) || number == 30; /* 29 can't come within the stimulus's length */
+    case REACTION: return number == 9 || number == 10 || number == 30;
+    default: return false;
+    }
+}
+
+static uint64_t print_histogram(void)
+{
+    uint64_t away = 0;
+    printf("number");
+    for (unsigned entry = 0; entry < ENTRIES; entry++)
+        printf(" %14s", entry_names[entry]);
+    printf("\n");
+    for (unsigned number = 0; number < 31; number++) {
+        bool some = false;
+        for (unsigned entry = 0; entry < ENTRIES; entry++)
+            some |= can_give((enum entry)entry, number) || histogram[entry][number] > 0;
+        if (!some)
+            continue;
+        printf("%6u", number);
+        for (unsigned entry = 0; entry < ENTRIES; entry++) {
+            bool can = can_give((enum entry)entry, number);
+            if (can || histogram[entry][number] > 0)
+                printf(" %14" PRIu64, histogram[entry][number]);
+            else
+                printf(" %14s", "-");
+            if (can && histogram[entry][number] == 0)
+                away++;
+        }
+        printf("\n");
+    }
+    if (other_numbers > 0)
+        printf("other numbers: %" PRIu64 "\n", other_numbers);
+    if (away > 0)
+        printf("stayed away: %" PRIu64 "\n", away);
+    return away;
+}
+
+static bool read_number(const char *text, uint64_t *number)
+{
+    char *end;
+    *number = strtoull(text, &end, 10);
+    return *text >= '0' && *text <= '9' && *end == '\0';
+}
+
+int main(int argc, char **argv)
+{
+    uint64_t cases = 100000, seed = 1;
+    if (argc > 3 || (argc > 1 && !read_number(argv[1], &cases)) || (argc > 2 && !read_number(argv[2], &seed))) {
+        fprintf(stderr, "usage: differential [CASES [SEED]]\n");
+        return 2;
+    }
+    paper_cases();
+    for (uint64_t number = 0; number < cases; number++)
+        random_case(seed, number);
+    uint64_t away = print_histogram();
+    printf("mismatches: %" PRIu64 "\n", mismatches);
+    printf("%" PRIu64 " passed, %" PRIu64 " failed\n", passed, mismatches + away);
+    return mismatches + away == 0 ? 0 : 1;
+}

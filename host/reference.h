@@ -1,0 +1,35 @@
+/* A second implementation of the four entries in plain C, written from the build description alone. The library is
+ * held against it. Each entry returns 0, or refusal number * 2^32 + place; on success the answer's numbers stand at
+ * the start of `answer`, four bytes each, most significant byte first.
+ *
+ *   check_table    no numbers
+ *   check_journal  T, ticks, moves, last state, its output
+ *   run            the journal's length
+ *   reaction       reaction time, target
+ *
+ * With SECOND defined the same entries get the prefix second_, so that two builds can be linked into one program. */
+#ifndef REFERENCE_H
+#define REFERENCE_H
+
+#include <stddef.h>
+#include <stdint.h>
+
+#ifdef SECOND
+#define reference_check_table second_check_table
+#define reference_check_journal second_check_journal
+#define reference_run second_run
+#define reference_reaction second_reaction
+#endif
+
+uint64_t reference_check_table(const uint8_t *table, size_t table_len);
+
+uint64_t reference_check_journal(const uint8_t *table, size_t table_len, const uint8_t *journal, size_t journal_len,
+                                 uint8_t *answer, size_t answer_len);
+
+uint64_t reference_run(const uint8_t *table, size_t table_len, const uint8_t *stimulus, size_t stimulus_len,
+                       uint8_t *journal, size_t journal_len, uint8_t *answer, size_t answer_len);
+
+uint64_t reference_reaction(const uint8_t *table, size_t table_len, uint32_t states, uint32_t inputs,
+                            uint8_t *answer, size_t answer_len);
+
+#endif

@@ -1,0 +1,156 @@
+#!/usr/bin/env bash
+# Holds the library against the reference in C (host/differential.c), then shows that the same test catches each of the
+# reference's faults. Builds only under target/. The last line is `N passed, M failed`.
+#
+#   host/test-differential.sh [--self] [CASES [SEED]]
+#
+# --self: a second build of the reference stands in for the library, which is then not needed.
+# RT: the command to build the library with (default: rt).
+set -u
+CDPATH='' cd -- "$(dirname -- "${BASH_SOURCE[0]}")/.." || exit 1
+
+self=no
+if [ "${1-}" = --self ]; then
+    self=yes
+    shift
+fi
+cases=${1-100000}
+seed=${2-1}
+sanitized_cases=$((cases < 20000 ? cases : 20000))
+fault_cases=20000
+library=target/staticlib/libkrossvil.a
+out=target/host
+passed=0
+failed=0
+
+finish() {
+    printf '%s passed, %s failed\n' "$passed" "$failed"
+    [ "$failed" -eq 0 ]
+    exit
+}
+
+stop() { # MESSAGE: nothing more can be tried
+    printf '%s\n' "$1"
+    failed=$((failed + 1))
+    finish
+}
+
+if [ "$self" = no ] && ! grep -q '^krossvil:' crates.txt; then
+    echo "no crate krossvil in crates.txt: nothing to test"
+    finish
+fi
+
+# The library is x86-64 code. Elsewhere Debian's cross compiler and qemu stand in.
+native=yes
+compiler=gcc
+run=()
+link=()
+if [ "$(uname -m)" != x86_64 ]; then
+    native=no
+    compiler=x86_64-linux-gnu-gcc
+    run=(qemu-x86_64-static)
+    link=(-static)
+    missing=()
+    command -v "$compiler" >/dev/null || missing+=(gcc-x86-64-linux-gnu)
+    command -v "${run[0]}" >/dev/null || missing+=(qemu-user-static)
+    case $("$compiler" -print-file-name=libc.a 2>/dev/null) in
+    '' | libc.a) missing+=(libc6-dev-amd64-cross) ;; # no compiler, or it finds no C library
+    esac
+    if [ "${#missing[@]}" -gt 0 ]; then
+        echo "installing ${missing[*]}"
+        as_root=()
+        [ "$(id -u)" -eq 0 ] || as_root=(sudo -n)
+        "${as_root[@]}" env DEBIAN_FRONTEND=noninteractive apt-get -q update </dev/null >/dev/null
+        "${as_root[@]}" env DEBIAN_FRONTEND=noninteractive apt-get -q -y --no-install-recommends install \
+            "${missing[@]}" </dev/null >/dev/null || stop "could not install ${missing[*]}"
+    fi
+fi
+
+mkdir -p "$out" || stop "could not make $out"
+if [ "$self" = no ]; then
+    "${RT-rt}" staticlib krossvil || stop "rt staticlib krossvil failed"
+    [ -e "$library" ] || stop "no $library"
+fi
+
+compile() { # FLAGS AND FILES
+    "$compiler" -std=c11 -O2 -Wall -Wextra -Werror -Ihost -Iinclude "$@"
+}
+
+# The test against what stands on the other side: the library, or with --self a second reference.
+build() { # NAME FLAGS
+    local name=$1
+    shift
+    compile "$@" -c host/reference.c -o "$out/$name-reference.o" || return
+    if [ "$self" = yes ]; then
+        compile "$@" -DSECOND -c host/reference.c -o "$out/$name-second.o" &&
+            compile "$@" -DSELF host/differential.c "$out/$name-reference.o" "$out/$name-second.o" \
+                "${link[@]}" -o "$out/$name"
+    else
+        compile "$@" host/differential.c "$out/$name-reference.o" "$library" "${link[@]}" -o "$out/$name"
+    fi
+}
+
+# Runs a built test and adds its counts; one that breaks off, or whose status denies its counts, is a failure more.
+try() { # NAME CASES
+    local status last log="$out/$1.log"
+    "${run[@]}" "$out/$1" "$2" "$seed" >"$log" 2>&1
+    status=$?
+    cat "$log"
+    last=$(tail -n 1 "$log")
+    if [[ $last =~ ^([0-9]+)\ passed,\ ([0-9]+)\ failed$ ]]; then
+        passed=$((passed + BASH_REMATCH[1]))
+        failed=$((failed + BASH_REMATCH[2]))
+        if [ "$status" -ne 0 ] && [ "${BASH_REMATCH[2]}" -eq 0 ]; then
+            failed=$((failed + 1))
+        fi
+    else
+        echo "broke off with status $status"
+        failed=$((failed + 1))
+    fi
+}
+
+echo "== differential: $cases cases, seed $seed"
+build differential || stop "did not build"
+try differential "$cases"
+
+if [ "$native" = yes ]; then
+    echo "== with sanitizers: $sanitized_cases cases"
+    build sanitized -g -fsanitize=address,undefined -fno-sanitize-recover=all || stop "did not build"
+    try sanitized "$sanitized_cases"
+fi
+
+# Each fault, in a second reference on the library's side. Only a mismatch counts as caught.
+echo "== faults: $fault_cases cases each"
+compile -c host/reference.c -o "$out/reference.o" && compile -DSELF -c host/differential.c -o "$out/self.o" ||
+    stop "did not build"
+tried=0
+fault() { # NUMBER MEANING
+    local found=0 log="$out/fault.log"
+    rm -f "$out/fault"
+    if ! { compile -DSECOND -DFAULT="$1" -c host/reference.c -o "$out/fault.o" &&
+        "$compiler" "$out/self.o" "$out/reference.o" "$out/fault.o" "${link[@]}" -o "$out/fault"; }; then
+        echo "fault $1 did not build"
+        failed=$((failed + 1))
+        return
+    fi
+    "${run[@]}" "$out/fault" "$fault_cases" 1 >"$log" 2>&1
+    found=$(sed -n 's/^mismatches: //p' "$log")
+    if [ "$1" -eq 0 ] && [ "$found" = 0 ]; then
+        printf 'fault %2s: no mismatch, as it should be: %s\n' "$1" "$2"
+        passed=$((passed + 1))
+    elif [ "$1" -ne 0 ] && [ "${found:-0}" -gt 0 ]; then
+        printf 'fault %2s: caught %5s times: %s\n' "$1" "$found" "$2"
+        passed=$((passed + 1))
+    else
+        printf 'fault %2s: WRONG, %s mismatches: %s\n' "$1" "${found:-no count of}" "$2"
+        failed=$((failed + 1))
+    fi
+}
+fault 0 "none"
+while read -r number meaning; do
+    fault "$number" "$meaning"
+    tried=$((tried + 1))
+done < <(sed -n '/-DFAULT=n/,/\*\//s/^ \*  *\([0-9][0-9]*\)  \(.*\)$/\1 \2/p' host/reference.c | sed 's, \*/$,,')
+highest=$(sed -n 's/.*FAULT > \([0-9][0-9]*\).*/\1/p' host/reference.c)
+[ "$tried" = "$highest" ] || stop "$tried faults tried of $highest"
+finish
