@@ -11,7 +11,7 @@ use Rattle.wire.specs.Encode.{Bytes, field}
 use Rattle.table.specs.declared.Table.{Table}
 use Rattle.table.specs.declared.Answer as table
 use Rattle.table.specs.declared.Answer.the-variants.{Passes}
-use Rattle.table.specs.Answer.{numberOf}
+use Rattle.table.specs.Answer.{numberOf, _and-then_}
 use Rattle.table.specs.Table.{outputOf, WellFormed}
 use Rattle.table.specs.Encode as tables
 use Rattle.table.specs.Check.{tableAnswer, checkedAs, checkedOf}
