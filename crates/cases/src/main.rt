@@ -1,9 +1,11 @@
 // Worked examples and corners of document 01, run through the proved entries: each line says what went in and what came out.
 // The file `stdout` holds the answers as the page gives them, and the gate compares. Each entry has a module of its own.
 mod print;
+mod reactions;
 mod samples;
 mod tables;
 
 fn main() {
     tables::run();
+    reactions::run();
 }
