@@ -1,0 +1,35 @@
+-- The cases that document 01 marks P, computed.
+use mathlib.Core.Path.{refl}
+use Rattle.wire.specs.Encode.{field}
+use Rattle.wire.specs.Field.{fieldAt}
+use Rattle.sets.specs.Sets.{some, setOf, largest}
+use Rattle.table.specs.Answer.{_and-then_}
+use Rattle.table.specs.Entries.{values, firstFrom}
+use Rattle.table.specs.Encode as tables
+use Rattle.table.specs.Encode.{words}
+use Rattle.table.specs.Check.{named, fieldAnswer, entriesBelow, rowAnswer, inRange, countsInRange, headAnswer, entriesAnswer}
+use Rattle.table.specs.Check.{tableAnswer, tableOf, checkedAs, checkedOf}
+use Rattle.machine.specs.Machine.{heldBy, verdict, stateAfter, gate, step}
+use Rattle.journal.specs.Records.{lengthFits, openingIn, openingOf, recordOf, ranged, recordIn, recordAt, itemsFrom, itemsOf}
+use Rattle.journal.specs.Encode.{bytesOf, encodeRecords, encode}
+use Rattle.journal.specs.Check as journal
+use Rattle.journal.specs.Check.{ticksIn, movesIn, recordsAnswer, journalAnswer, checkOf}
+use Rattle.reaction.specs.Reaction.{nextSet, weightOf, reactionTime, firstLeaving, reactionOf, reactOf}
+use Rattle.runtime.specs.Encode.{eventBytes, encodeEvents, encodeStimulus}
+use Rattle.runtime.specs.Events as events
+use Rattle.runtime.specs.Events.{eventOf, eventIn, eventAt, eventsFrom, eventsIn}
+use Rattle.runtime.specs.Run as runtime
+use Rattle.runtime.specs.Run.{filled, produce, recordBytes, written, recordsRun, runUnder, runOf}
+use Rattle.demands.specs.Cases.{CasesHold, Sizes}
+
+pub cases-hold : CasesHold
+unfolding field eventBytes encodeEvents encodeStimulus fieldAt some setOf largest _and-then_ values firstFrom tables.encode words named fieldAnswer entriesBelow rowAnswer inRange
+    countsInRange headAnswer entriesAnswer tableAnswer tableOf checkedAs checkedOf heldBy verdict stateAfter gate step lengthFits openingIn
+    openingOf recordOf ranged recordIn recordAt itemsFrom itemsOf bytesOf encodeRecords encode journal.run ticksIn movesIn recordsAnswer
+    journal.opened journalAnswer checkOf nextSet weightOf reactionTime firstLeaving reactionOf reactOf eventOf events.ranged eventIn eventAt
+    eventsFrom eventsIn filled produce recordBytes written recordsRun runtime.opened runUnder runOf
+cases-hold = refl
+
+pub sizes : Sizes
+unfolding field tables.encode words bytesOf encodeRecords encode eventBytes encodeEvents encodeStimulus
+sizes = (refl, refl, refl)

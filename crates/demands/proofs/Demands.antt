@@ -1,0 +1,159 @@
+-- Acceptance and demand 3, as specs/Demands states them.
+use mathlib.Core.Path.{_≡_, refl, sym, _∙_}
+use mathlib.Core.List.{List, [], _∷_, _++_}
+use mathlib.Core.Bool.{Bool, true, false}
+use mathlib.Core.Logic.{_⊎_, inl, inr}
+use Prim.Native.Nat.{ℕ, _+_, _*_, _≤_}
+use native.Mathlib.Omega.{arith}
+use borrow.Author.Tests.{lt-ltb}
+use lib.ListN.{length}
+use Rattle.wire.specs.Choice.{_<?_, _and_, if_then_else_}
+use Rattle.sets.specs.Sets.{member, some}
+use Rattle.sets.proofs.Members.{some-if}
+use Rattle.table.specs.declared.Answer.the-variants.{Passes}
+use Rattle.table.specs.declared.Table.{Table}
+use Rattle.table.specs.declared.Checked.{Checked}
+use Rattle.table.specs.Table.{outputOf, holdOf, delays, WellFormed}
+use Rattle.table.specs.Check.{checkedOf}
+use Rattle.machine.specs.declared.Record.{Record}
+use Rattle.machine.specs.declared.Record.the-variants.{End}
+use Rattle.machine.specs.Machine.{start}
+use Rattle.journal.proofs.Answering.{table-passed}
+use Rattle.reaction.specs.declared.Answer.the-variants.{Reacts}
+use Rattle.reaction.specs.Reaction.{weightOf, weight, reactOf}
+use Rattle.reaction.specs.Meaning.{Known, Slowest, Reaction}
+use Rattle.reaction.proofs.Meaning.{means}
+use Rattle.reaction.proofs.Entry.{on-the-table}
+use Rattle.runs.specs.Accepted as runs
+use Rattle.runs.specs.Reaction.{Weights}
+use Rattle.runs.specs.Slots as slots
+use Rattle.runs.proofs.Automaton.{machine-is-automaton}
+use Rattle.runs.proofs.Soon.{not-too-soon}
+use Rattle.runs.proofs.OneMove.{one-move}
+use Rattle.laws.specs.Journals.{JournalOf, AcceptedRun, ticksOf, movesOf}
+use Rattle.laws.proofs.Tables.{holds-that-table}
+use Rattle.laws.proofs.Accepting.{ends-at}
+use Rattle.laws.proofs.Journals.{records-are-one, accepts-exactly, checks-exactly}
+use Rattle.demands.specs.Demands.{AcceptedIsRun, AcceptedJournal, NotTooSoon, NotTooLate}
+
+-- ---- Acceptance
+
+-- The run of an accepted journal without its bytes and its numbers, and back.
+run-accepted : {t : Table} {s : List ℕ} {T ticks moves state output : ℕ} (a : AcceptedRun t s T ticks moves state output) →
+    runs.Accepted t (a .input) (a .records ++ End T ∷ []) T
+run-accepted {t} {T = T} a = record {
+  last = a .last;
+  runs = a .runs;
+  ends = sym (ends-at t (a .last) T (start (t .initial) (a .input)) (a .records) (a .runs));
+}
+
+accepts-run : {t : Table} {s : List ℕ} {T input : ℕ} {before : List Record} →
+    length s ≤ 65536 → JournalOf (t .states) (t .inputs) s input before T →
+    (a : runs.Accepted t input (before ++ End T ∷ []) T) →
+    AcceptedRun t s T (ticksOf before) (movesOf (t .initial) before) (a .last .state) (outputOf t (a .last .state))
+accepts-run {input = input} {before = before} short journal a = record {
+  short = short;
+  input = input;
+  records = before;
+  journal = journal;
+  last = a .last;
+  runs = a .runs;
+  ticks-are = refl;
+  moves-are = refl;
+  state-is = refl;
+  output-is = refl;
+}
+
+pub accepted-is-run : AcceptedIsRun
+accepted-is-run table journal table-bytes bytes T = (
+  λ a.
+      let p = checks-exactly table journal table-bytes bytes T (a .ticks) (a .moves) (a .state) (a .output) .0 (a .answer) in
+      let accepts = p .3 in
+      let records = accepts .records ++ End T ∷ [] in
+      record {
+        short = accepts .short;
+        t = p .0;
+        input = accepts .input;
+        records = records;
+        holds = record {
+          well-formed = p .1;
+          table-is = p .2;
+          before-end = accepts .records;
+          journal-is = accepts .journal;
+          records-are = refl;
+        };
+        run = machine-is-automaton (p .0) (accepts .input) records T .0 (run-accepted accepts);
+      },
+  λ r.
+      let h = r .holds in
+      let records = h .before-end ++ End T ∷ [] in
+      let a = machine-is-automaton (r .t) (r .input) records T .1 (rw (h .records-are) at (r .run)) in
+      let accepts = accepts-run (r .short) (h .journal-is) a in
+      record {
+        ticks = _;
+        moves = _;
+        state = _;
+        output = _;
+        answer = checks-exactly table journal table-bytes bytes T _ _ _ _ .1 (r .t, h .well-formed, h .table-is, accepts);
+      },
+)
+
+-- ---- The table and the records of an accepted journal
+
+module _ {table journal : List ℕ} {t : Table} {input : ℕ} {records : List Record} {T : ℕ}
+    (j : AcceptedJournal table journal t input records T) where
+  abbrev passed : Checked
+  passed = record { answer = Passes; table = t }
+
+  is-passed : passed ≡ checkedOf table
+  is-passed = sym (holds-that-table table t (j .holds .well-formed) (j .holds .table-is))
+
+  accepted : runs.Accepted t input records T
+  accepted =
+      let a = j .accepted in
+      let h = j .holds in
+      let answer = table-passed table journal passed is-passed refl ∙ a .answer in
+      let run = accepts-exactly t journal (j .bytes) T (a .ticks) (a .moves) (a .state) (a .output) .0 answer in
+      let one = records-are-one (t .states) (t .inputs) journal _ _ _ _ T T (h .journal-is) (run .journal) in
+      rw (← one .0, ← one .1, ← h .records-are) at (run-accepted run)
+
+  calculated : {P A c target : ℕ} → reactOf table P A ≡ Reacts c target → Reaction t P A c target
+  calculated {P} {A} {c} {target} e =
+      means t (j .holds .well-formed) P A (Reacts c target) (sym (on-the-table table passed is-passed refl P A ∙ e))
+
+-- ---- Demand 3
+
+pub accepted-not-too-soon : NotTooSoon
+accepted-not-too-soon table journal t input records T j = not-too-soon t input records T (accepted j)
+
+-- The weights of document 01 are large enough.
+at-least : (b : Bool) (hold E : ℕ) → E ≤ (if b then hold + 2 * E else E)
+at-least true hold E = omega arith
+at-least false hold E = omega arith
+
+weights : (t : Table) (A : ℕ) → Known (t .inputs) A → Weights t (member A) (weight t A)
+unfolding weightOf
+weights t A known = record {
+  plain = λ q. at-least ((0 <? holdOf t q) and some (t .inputs) (λ a. member A a and delays t q a)) (holdOf t q) (t .bound);
+  delayed = λ q a is some-hold delayed.
+      let yes = some-if (t .inputs) (λ a. member A a and delays t q a) a (known a is) (rw (is, delayed)) in
+      rw (lt-ltb 0 (holdOf t q) some-hold, yes) (omega arith);
+}
+
+covers-bound : {t : Table} {P A target time : ℕ} → (time ≡ t .bound) ⊎ Slowest t P A target time → t .bound ≤ time
+covers-bound (inl e) = omega arith
+covers-bound (inr slowest) = omega (arith, slowest .is)
+
+in-time : (t : Table) (P A c target : ℕ) → WellFormed t → Reaction t P A c target → slots.NotTooLate t (member P) (member A) (member target) c
+in-time t P A c target ok r = one-move (record {
+  bound-positive = ok .bound .0;
+  weights = weights t A (r .inputs);
+  has = λ p a x y. r .next .has p a (x, y);
+  inside = λ q n. let comes = r .next .only q n in rw (comes .is) at (r .next .inside (comes .state) (comes .input) (comes .pair));
+  covers-bound = covers-bound (r .reached);
+  covers = r .covers;
+})
+
+pub accepted-not-too-late : NotTooLate
+accepted-not-too-late table journal t input records T j P A c target e =
+    in-time t P A c target (j .holds .well-formed) (calculated j e) input records T (accepted j)

@@ -1,0 +1,78 @@
+-- Acceptance and demand 3, for any bytes of a table and of a journal; proofs/Demands proves each.
+use mathlib.Core.Path.{_≡_}
+use mathlib.Core.List.{List, [], _∷_, _++_}
+use mathlib.Core.Bool.{true}
+use mathlib.Core.Logic.{_↔_}
+use Prim.Native.Nat.{ℕ, _+_, _<_, _≤_}
+use lib.ListN.{length}
+use Rattle.wire.specs.Encode.{Bytes}
+use Rattle.sets.specs.Sets.{member}
+use Rattle.table.specs.declared.Table.{Table}
+use Rattle.table.specs.Table.{holdOf, delays, WellFormed}
+use Rattle.table.specs.Encode as tables
+use Rattle.machine.specs.declared.Record.{Record}
+use Rattle.machine.specs.declared.Record.the-variants.{End}
+use Rattle.journal.specs.declared.Answer.the-variants.{Accepted}
+use Rattle.journal.specs.Check.{checkOf}
+use Rattle.reaction.specs.declared.Answer.the-variants.{Reacts}
+use Rattle.reaction.specs.Reaction.{reactOf}
+use Rattle.runs.specs.Automaton.{initially, Run}
+use Rattle.runs.specs.Slots.{inputAt, stateAt, EnteredAt}
+use Rattle.laws.specs.Journals.{JournalOf}
+
+-- ---- Acceptance
+
+-- The journal check accepts, and gives T as the end.
+pub record Accepts (table journal : List ℕ) (T : ℕ) : Type 0 where
+  pub ticks : ℕ
+  pub moves : ℕ
+  pub state : ℕ
+  pub output : ℕ
+  pub answer : checkOf table journal ≡ Accepted T ticks moves state output
+
+-- What the bytes hold: a well-formed table; an opening input, then records in range, of which the last and no other is the end, at T.
+pub record Holds (table journal : List ℕ) (t : Table) (input : ℕ) (records : List Record) (T : ℕ) : Type 0 where
+  pub well-formed : WellFormed t
+  pub table-is : table ≡ tables.encode t
+  pub before-end : List Record
+  pub journal-is : JournalOf (t .states) (t .inputs) journal input before-end T
+  pub records-are : records ≡ before-end ++ End T ∷ []
+
+-- The journal is not too long, and its records are a run of the table's timed automaton ending at T.
+pub record HoldsRun (table journal : List ℕ) (T : ℕ) : Type 0 where
+  pub short : length journal ≤ 65536
+  pub t : Table
+  pub input : ℕ
+  pub records : List Record
+  pub holds : Holds table journal t input records T
+  pub run : Run t 0 (initially t input) records T
+
+-- Any bytes are accepted exactly when they hold such a run.
+abbrev pub AcceptedIsRun : Type 0
+AcceptedIsRun = (table journal : List ℕ) → Bytes table → Bytes journal → (T : ℕ) → Accepts table journal T ↔ HoldsRun table journal T
+
+-- ---- Demand 3
+
+-- An accepted journal, with what its bytes and those of its table hold.
+pub record AcceptedJournal (table journal : List ℕ) (t : Table) (input : ℕ) (records : List Record) (T : ℕ) : Type 0 where
+  pub bytes : Bytes journal
+  pub accepted : Accepts table journal T
+  pub holds : Holds table journal t input records T
+
+-- q is entered at e, e ≤ k ≤ e + hold, k < T, and each slot from e to k - 1 has an input delayed in q. Then slot k has state q.
+abbrev pub NotTooSoon : Type 0
+NotTooSoon =
+    (table journal : List ℕ) (t : Table) (input : ℕ) (records : List Record) (T : ℕ) → AcceptedJournal table journal t input records T →
+    (q e k : ℕ) → EnteredAt t input records q e → e ≤ k → k ≤ e + holdOf t q → k < T →
+    ((j : ℕ) → e ≤ j → j < k → delays t q (inputAt t input records j) ≡ true) →
+    stateAt t input records k ≡ q
+
+-- The calculator accepts P and A, s + c < T, and each slot from s to s + c - 1 has its state in P and its input in A. Then slot s + c
+-- has its state in the target.
+abbrev pub NotTooLate : Type 0
+NotTooLate =
+    (table journal : List ℕ) (t : Table) (input : ℕ) (records : List Record) (T : ℕ) → AcceptedJournal table journal t input records T →
+    (P A c target : ℕ) → reactOf table P A ≡ Reacts c target →
+    (s : ℕ) → s + c < T →
+    ((k : ℕ) → s ≤ k → k < s + c → (member P (stateAt t input records k) ≡ true) × (member A (inputAt t input records k) ≡ true)) →
+    member target (stateAt t input records (s + c)) ≡ true
