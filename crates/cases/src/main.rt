@@ -1,11 +1,15 @@
 // Worked examples and corners of document 01, run through the proved entries: each line says what went in and what came out.
 // The file `stdout` holds the answers as the page gives them, and the gate compares. Each entry has a module of its own.
+mod journals;
 mod print;
 mod reactions;
 mod samples;
+mod stimuli;
 mod tables;
 
 fn main() {
     tables::run();
+    journals::run();
+    stimuli::run();
     reactions::run();
 }

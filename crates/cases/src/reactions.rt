@@ -1,16 +1,9 @@
 // The reaction calculator: document 01, "Reaction times", and the filter of document 002.
 use crate::print;
+use crate::samples::CLASSROOM;
 use reaction::Answer;
 
-// The classroom table of document 01, and examples/stutter-filter/table.bin, a field to a line.
-const CLASSROOM: [u8; 48] = *b"\
-    \x01\0\x04\x02\x02\x02\0\
-    \x02\0\x04\0\0\0\x03\
-    \x03\0\x02\0\x01\
-    \x04\0\x04\0\x01\0\x01\
-    \x05\0\x08\0\0\0\0\0\0\0\x05\
-    \x06\0\x08\0\0\0\0\0\0\0\x01";
-
+// examples/stutter-filter/table.bin, a field to a line.
 const FILTER: [u8; 48] = *b"\
     \x01\0\x04\x02\x02\x02\0\
     \x02\0\x04\0\0\0\xC8\

@@ -5,7 +5,7 @@ ghost use lib.ListN.{length};
 pub type Room = [u8; 1339];
 
 // The classroom table of document 01, a field to a line.
-const CLASSROOM: [u8; 48] = *b"\
+pub const CLASSROOM: [u8; 48] = *b"\
     \x01\0\x04\x02\x02\x02\0\
     \x02\0\x04\0\0\0\x03\
     \x03\0\x02\0\x01\
