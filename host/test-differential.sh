@@ -1,6 +1,6 @@
 #!/usr/bin/env bash
 # Holds the library against the reference in C (host/differential.c), then shows that the same test catches each of the
-# reference's faults. Builds only under target/. The last line is `N passed, M failed`.
+# reference's faults; and runs the example host. Builds only under target/. The last line is `N passed, M failed`.
 #
 #   host/test-differential.sh [--self] [CASES [SEED]]
 #
@@ -34,11 +34,6 @@ stop() { # MESSAGE: nothing more can be tried
     failed=$((failed + 1))
     finish
 }
-
-if [ "$self" = no ] && ! grep -q '^krossvil:' crates.txt; then
-    echo "no crate krossvil in crates.txt: nothing to test"
-    finish
-fi
 
 # The library is x86-64 code. Elsewhere Debian's cross compiler and qemu stand in.
 native=yes
@@ -117,6 +112,19 @@ if [ "$native" = yes ]; then
     echo "== with sanitizers: $sanitized_cases cases"
     build sanitized -g -fsanitize=address,undefined -fno-sanitize-recover=all || stop "did not build"
     try sanitized "$sanitized_cases"
+fi
+
+if [ "$self" = no ]; then
+    echo "== the example host"
+    compile examples/host.c "$library" "${link[@]}" -o "$out/example" || stop "did not build"
+    if "${run[@]}" "$out/example" examples/classroom/table.bin examples/classroom/stimulus.bin >"$out/example.log" &&
+        diff examples/classroom/host.txt "$out/example.log"; then
+        cat "$out/example.log"
+        passed=$((passed + 1))
+    else
+        echo "the example host printed something else than examples/classroom/host.txt"
+        failed=$((failed + 1))
+    fi
 fi
 
 # Each fault, in a second reference on the library's side. Only a mismatch counts as caught.

@@ -1,0 +1,6 @@
+pub mod TablePlaces
+pub mod JournalPlaces
+pub mod RunPlaces
+pub mod ReactionPlaces
+pub mod Telling
+pub mod Answers

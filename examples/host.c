@@ -1,0 +1,67 @@
+/* An example host: runs a stimulus on a table, checks the journal that comes out, and asks for a reaction time.
+ *
+ *   rt staticlib krossvil
+ *   gcc -O2 -Iinclude examples/host.c target/staticlib/libkrossvil.a -o host
+ *   ./host examples/classroom/table.bin examples/classroom/stimulus.bin
+ */
+#include <stdio.h>
+#include "krossvil.h"
+
+/* A table has at most 1,338 bytes; one byte more than the longest stimulus lets a file that is too long be turned down as such. */
+static uint8_t table[2048], stimulus[KROSSVIL_STIMULUS_MAX + 1], journal[KROSSVIL_JOURNAL_MAX];
+
+static int load(const char *path, uint8_t *bytes, size_t room, size_t *size)
+{
+    FILE *file = fopen(path, "rb");
+    if (!file) {
+        fprintf(stderr, "%s cannot be opened\n", path);
+        return 0;
+    }
+    *size = fread(bytes, 1, room, file);
+    fclose(file);
+    return 1;
+}
+
+/* Prints a refusal; 1 if there was none. */
+static int passed(const char *what, uint64_t code)
+{
+    if (code == 0)
+        return 1;
+    printf("%s: refused %u at %u\n", what, krossvil_number(code), krossvil_place(code));
+    return 0;
+}
+
+int main(int count, char **words)
+{
+    size_t table_size, stimulus_size;
+    uint8_t answer[KROSSVIL_JOURNAL_ANSWER];
+
+    if (count != 3) {
+        fprintf(stderr, "usage: host TABLE STIMULUS\n");
+        return 2;
+    }
+    if (!load(words[1], table, sizeof table, &table_size) || !load(words[2], stimulus, sizeof stimulus, &stimulus_size))
+        return 2;
+
+    if (!passed("table", krossvil_check_table(table, table_size)))
+        return 1;
+    printf("table: passes\n");
+
+    if (!passed("run", krossvil_run(table, table_size, stimulus, stimulus_size, journal, sizeof journal, answer, sizeof answer)))
+        return 1;
+    size_t journal_size = krossvil_read(answer, 0);
+    printf("run: a journal of %zu bytes\n", journal_size);
+
+    if (!passed("journal", krossvil_check_journal(table, table_size, journal, journal_size, answer, sizeof answer)))
+        return 1;
+    printf("journal: accepted end=%u cycles=%u moves=%u state=%u output=%u\n", krossvil_read(answer, 0), krossvil_read(answer, 1),
+           krossvil_read(answer, 2), krossvil_read(answer, 3), krossvil_read(answer, 4));
+
+    /* Every state, and input 0 alone. The table passed, so its fourth byte is the number of states. */
+    uint32_t states = (uint32_t)(((uint64_t)1 << table[3]) - 1);
+    if (!passed("reaction", krossvil_reaction(table, table_size, states, 1, answer, sizeof answer)))
+        return 1;
+    printf("reaction: from any state, while the input is 0, within %u to the states of the set %u\n", krossvil_read(answer, 0),
+           krossvil_read(answer, 1));
+    return 0;
+}

@@ -1,0 +1,118 @@
+/*
+ * krossvil: a table check, a journal check, a runtime and a reaction calculator for polling controllers, for a host program in C.
+ *
+ * Link with libkrossvil.a (x86-64). The functions keep no state, allocate nothing, call only memcpy and memset, and never stop the program:
+ * each ends with an answer on any bytes. krossvil_run needs about 80,000 bytes of stack.
+ *
+ * Slices. A slice is a pointer and the number of bytes at it. The pointer is never null, not even if the number is 0, and a slice
+ * that a function writes to (without const) shares no byte with another slice of the same call.
+ *
+ * The number that comes back. 0 is success. Otherwise it is refusal number * 2^32 + place: krossvil_number and krossvil_place
+ * below take it apart. On a refusal no byte of any slice has changed.
+ *
+ * The answer. On success the answer's numbers stand at the start of `answer`, four bytes each, most significant byte first
+ * (krossvil_read reads one), and its other bytes are unchanged. If `answer` is too short for them the refusal is 30 at 0; that is
+ * checked last of all, so any other refusal comes before it.
+ *
+ * Bytes. Each field is a tag byte, a two-byte length, then the value; all numbers are unsigned, most significant byte first.
+ * Q, I and O are the counts of states, inputs and outputs; tags are in hexadecimal.
+ *
+ *   Table, exactly these fields in this order:
+ *     01  4    Q, I, O (each 1..32), initial state (below Q)
+ *     02  4    cycle bound E, 1..60,000
+ *     03  Q    output of each state, below O
+ *     04  Q*I  next state, rows by state, each below Q
+ *     05  4*Q  hold of each state, 0..3,600,000
+ *     06  4*Q  delayed inputs of each state: input i is 2^i
+ *
+ *   Journal, at most 65,536 bytes: field 10 first, field 1F last, the others between in any number. A time is four bytes,
+ *   0..2,000,000,000, and stands first in its value.
+ *     10  1    input at time 0
+ *     11  5    change: time, new input
+ *     12  5    poll: time, input polled
+ *     13  5    test: time, verdict (0 held, 1 free)
+ *     14  5    tick: time, state afterwards
+ *     1F  4    end: time T
+ *
+ *   Stimulus, at most 57,344 bytes: the same with tags 20 to 24 and 2F; fields 22, 23 and 24 have length 4, the time only.
+ *
+ * Refusals. A place is a byte offset, counted from 0, in the bytes that were turned down, save for 9 and 10.
+ *      1  table runs out before field 06 is complete              start of the field
+ *      2  table field has the wrong tag or length                 start of the field
+ *      3  a count or the initial state is out of range            start of the field
+ *      4  E out of range                                          start of the field
+ *      5  output or next state out of range                       first such entry
+ *      6  hold too long                                           first such entry
+ *      7  delayed set names an input at or above I                first such entry
+ *      8  bytes after field 06                                    first of them
+ *      9  calculator: a set names a member that does not exist    0 states, 1 inputs
+ *     10  calculator: some next(p, a) is outside the states       smallest p*I + a
+ *     19  journal or stimulus too long                            0
+ *     20  bytes run out before the end field is complete          start of the field
+ *     21  unknown tag, or wrong length for the tag                start of the field
+ *     22  first field is not the opening one, a second opening,
+ *         or bytes after the end field                            start of the field or bytes
+ *     23  time, input, verdict or state out of range              start of the field
+ *     24  time earlier than the record before                     start of the field
+ *     25  later than cycle start + E                              start of the field
+ *     26  record not allowed in this phase                        start of the field
+ *     27  poll not later than last change, or than cycle start    start of the field
+ *     28  polled input, verdict or state differs from the
+ *         machine's                                               start of the field
+ *     29  runtime: journal would pass 65,536 bytes                0
+ *     30  runtime: buffer shorter than the journal;
+ *         any function: answer too short                          0
+ *
+ * The table's refusals, 1 to 8, come before all others, then 19, then record by record 20 to 28, then 29, then 30.
+ */
+#ifndef KROSSVIL_H
+#define KROSSVIL_H
+
+#include <stddef.h>
+#include <stdint.h>
+
+#ifdef __cplusplus
+extern "C" {
+#endif
+
+#define KROSSVIL_JOURNAL_MAX 65536u /* a journal buffer of this size is never too short */
+#define KROSSVIL_STIMULUS_MAX 57344u
+
+#define KROSSVIL_JOURNAL_ANSWER 20u /* bytes of answer on success: T, ticks, moves, last state, its output */
+#define KROSSVIL_RUN_ANSWER 4u      /* the journal's length in bytes */
+#define KROSSVIL_REACTION_ANSWER 8u /* reaction time, target set */
+
+/* Does the table pass? There are no further numbers. */
+uint64_t krossvil_check_table(const uint8_t *table, size_t table_len);
+
+/* Is the journal a run of the table's machine? Answer, 20 bytes: T, the number of ticks, the number of moves (ticks that change the
+ * state), the last state, its output. */
+uint64_t krossvil_check_journal(const uint8_t *table, size_t table_len, const uint8_t *journal, size_t journal_len,
+                                uint8_t *answer, size_t answer_len);
+
+/* Run the table's machine on a stimulus and write its journal at the start of `journal`; the bytes past it are unchanged.
+ * Answer, 4 bytes: the journal's length. */
+uint64_t krossvil_run(const uint8_t *table, size_t table_len, const uint8_t *stimulus, size_t stimulus_len,
+                      uint8_t *journal, size_t journal_len, uint8_t *answer, size_t answer_len);
+
+/* How long until the state is in the target, once it stays in `states` and the input in `inputs`? Sets are numbers, bit i for
+ * member i; empty sets are allowed. Answer, 8 bytes: the reaction time in units of the table's times, the target set. */
+uint64_t krossvil_reaction(const uint8_t *table, size_t table_len, uint32_t states, uint32_t inputs,
+                           uint8_t *answer, size_t answer_len);
+
+static inline uint32_t krossvil_number(uint64_t code) { return (uint32_t)(code >> 32); }
+
+static inline uint32_t krossvil_place(uint64_t code) { return (uint32_t)code; }
+
+/* The answer's number k, counted from 0. */
+static inline uint32_t krossvil_read(const uint8_t *answer, size_t k)
+{
+    const uint8_t *b = answer + 4 * k;
+    return (uint32_t)b[0] << 24 | (uint32_t)b[1] << 16 | (uint32_t)b[2] << 8 | (uint32_t)b[3];
+}
+
+#ifdef __cplusplus
+}
+#endif
+
+#endif
