@@ -1,0 +1,276 @@
+/* Times the library and plain C (host/plain.c) on the same bytes, in one process and in turns, and prints for each job the
+ * median time of a call, how far the middle half of the rounds spreads, and the ratio of the library to plain C. Each job
+ * has several inputs in rotation, so that no branch is learnt by heart. Times are comparable only within one run. */
+#include "krossvil.h"
+#include "plain.h"
+
+#include <stdbool.h>
+#include <stdio.h>
+#include <stdlib.h>
+#include <string.h>
+#include <time.h>
+
+enum { ROUNDS = 61, ROTATION = 16, ROUND_NS = 400000, TABLE_ROOM = 1338 };
+
+/* ---- chance ---- */
+
+static uint64_t chance = 1;
+
+static uint32_t below(uint32_t count)
+{
+    chance ^= chance << 13;
+    chance ^= chance >> 7;
+    chance ^= chance << 17;
+    return (uint32_t)(chance >> 32) % count;
+}
+
+/* ---- inputs ---- */
+
+struct input {
+    uint8_t table[TABLE_ROOM], stimulus[KROSSVIL_STIMULUS_MAX], journal[KROSSVIL_JOURNAL_MAX];
+    size_t table_len, stimulus_len, journal_len;
+    uint32_t states, inputs, bound, count_of_inputs;
+};
+
+static struct input inputs[ROTATION];
+
+static void add(uint8_t *bytes, size_t *len, unsigned byte)
+{
+    bytes[(*len)++] = (uint8_t)byte;
+}
+
+static void add4(uint8_t *bytes, size_t *len, uint32_t number)
+{
+    for (int shift = 24; shift >= 0; shift -= 8)
+        add(bytes, len, number >> shift);
+}
+
+static void head(uint8_t *bytes, size_t *len, unsigned tag, size_t length)
+{
+    add(bytes, len, tag);
+    add(bytes, len, (unsigned)(length >> 8));
+    add(bytes, len, (unsigned)length);
+}
+
+/* A table of random next states, in which every second state has a hold and delays some inputs. */
+static void make_table(struct input *in, uint32_t states, uint32_t count, uint32_t bound)
+{
+    uint8_t *b = in->table;
+    size_t *n = &in->table_len;
+    *n = 0;
+    head(b, n, 1, 4);
+    add(b, n, states);
+    add(b, n, count);
+    add(b, n, states);
+    add(b, n, 0);
+    head(b, n, 2, 4);
+    add4(b, n, bound);
+    head(b, n, 3, states);
+    for (uint32_t q = 0; q < states; q++)
+        add(b, n, q);
+    head(b, n, 4, states * count);
+    for (uint32_t k = 0; k < states * count; k++)
+        add(b, n, below(states));
+    head(b, n, 5, 4 * states);
+    for (uint32_t q = 0; q < states; q++)
+        add4(b, n, q % 2 * (1 + below(4 * bound)));
+    head(b, n, 6, 4 * states);
+    for (uint32_t q = 0; q < states; q++)
+        add4(b, n, q % 2 * below(1u << (count < 31 ? count : 31)));
+    in->bound = bound;
+    in->count_of_inputs = count;
+    in->states = states == 32 ? UINT32_MAX : (1u << states) - 1;
+    in->inputs = count == 32 ? UINT32_MAX : (1u << count) - 1;
+}
+
+static void add_event(struct input *in, unsigned tag, uint32_t time)
+{
+    head(in->stimulus, &in->stimulus_len, tag, tag == 0x21 ? 5 : 4);
+    add4(in->stimulus, &in->stimulus_len, time);
+}
+
+static void add_change(struct input *in, uint32_t time)
+{
+    add_event(in, 0x21, time);
+    add(in->stimulus, &in->stimulus_len, below(in->count_of_inputs));
+}
+
+/* One cycle after `start`; returns its tick. Regular: the same steps each time, and a change now and then. Irregular: changes
+ * before and after the poll, and steps of any length. */
+static uint32_t add_cycle(struct input *in, uint32_t start, bool irregular, uint32_t number, size_t *records)
+{
+    uint32_t third = in->bound / 3, time = start;
+    bool before = irregular ? below(2) : number % 8 == 0, after = irregular && below(3) == 0;
+    if (before) {
+        time += irregular ? below(third) : 0;
+        add_change(in, time);
+    }
+    time += 1 + (irregular ? below(third) : 0);
+    add_event(in, 0x22, time);
+    time += irregular ? below(third / 2) : 0;
+    if (after)
+        add_change(in, time);
+    add_event(in, 0x23, time);
+    time += irregular ? below(third / 2) : 0;
+    add_event(in, 0x24, time);
+    *records += 3 + before + after;
+    return time;
+}
+
+/* A stimulus whose journal has at most so many bytes, and its journal. */
+static void make_run(struct input *in, bool irregular, size_t size)
+{
+    uint32_t time = 0;
+    size_t records = 0;
+    uint8_t answer[4];
+    in->stimulus_len = 0;
+    head(in->stimulus, &in->stimulus_len, 0x20, 1);
+    add(in->stimulus, &in->stimulus_len, 0);
+    for (uint32_t k = 0; 11 + 8 * (records + 5) <= size && in->stimulus_len + 44 <= KROSSVIL_STIMULUS_MAX; k++)
+        time = add_cycle(in, time, irregular, k, &records);
+    add_event(in, 0x2F, time);
+    if (plain_run(in->table, in->table_len, in->stimulus, in->stimulus_len, in->journal, sizeof in->journal, answer, 4)) {
+        fprintf(stderr, "bench: a stimulus is refused\n");
+        exit(1);
+    }
+    in->journal_len = krossvil_read(answer, 0);
+}
+
+/* ---- jobs ---- */
+
+enum job { CHECK_TABLE, CHECK_JOURNAL, RUN, REACTION };
+
+static uint8_t room[KROSSVIL_JOURNAL_MAX];
+
+static uint64_t call(enum job job, bool library, const struct input *in, uint8_t *answer)
+{
+    switch (job) {
+    case CHECK_TABLE:
+        return (library ? krossvil_check_table : plain_check_table)(in->table, in->table_len);
+    case CHECK_JOURNAL:
+        return (library ? krossvil_check_journal : plain_check_journal)(in->table, in->table_len, in->journal,
+                                                                        in->journal_len, answer, 20);
+    case RUN:
+        return (library ? krossvil_run : plain_run)(in->table, in->table_len, in->stimulus, in->stimulus_len, room,
+                                                    sizeof room, answer, 4);
+    default:
+        return (library ? krossvil_reaction : plain_reaction)(in->table, in->table_len, in->states, in->inputs, answer, 8);
+    }
+}
+
+static size_t bytes_of(enum job job, const struct input *in)
+{
+    return job == CHECK_JOURNAL ? in->journal_len : job == RUN ? in->stimulus_len : in->table_len;
+}
+
+/* Both must give the same number, the same answer and, the runtime, the same journal; and nothing here is refused. */
+static void same_answers(enum job job)
+{
+    static uint8_t first[KROSSVIL_JOURNAL_MAX];
+    for (int k = 0; k < ROTATION; k++) {
+        uint8_t a[20] = { 0 }, b[20] = { 0 };
+        memset(room, 0, sizeof room);
+        uint64_t x = call(job, true, &inputs[k], a);
+        memcpy(first, room, sizeof room);
+        memset(room, 0, sizeof room);
+        uint64_t y = call(job, false, &inputs[k], b);
+        if (x != 0 || y != 0 || memcmp(a, b, sizeof a) != 0 || memcmp(first, room, sizeof room) != 0) {
+            fprintf(stderr, "bench: the library and plain C differ\n");
+            exit(1);
+        }
+    }
+}
+
+/* ---- time ---- */
+
+static double now(void)
+{
+    struct timespec t;
+    clock_gettime(CLOCK_MONOTONIC, &t);
+    return (double)t.tv_sec * 1e9 + (double)t.tv_nsec;
+}
+
+static volatile uint64_t sink;
+
+/* Nanoseconds a call, over the rotation so many times. */
+static double time_calls(enum job job, bool library, int times)
+{
+    uint8_t answer[20];
+    uint64_t sum = 0;
+    double start = now();
+    for (int n = 0; n < times; n++)
+        for (int k = 0; k < ROTATION; k++)
+            sum += call(job, library, &inputs[k], answer);
+    double end = now();
+    sink = sum;
+    return (end - start) / (times * ROTATION);
+}
+
+static int ascending(const void *a, const void *b)
+{
+    double x = *(const double *)a, y = *(const double *)b;
+    return (x > y) - (x < y);
+}
+
+/* Prints a line, and returns the library's nanoseconds a byte. */
+static double measure(const char *name, enum job job)
+{
+    double library[ROUNDS], plain[ROUNDS], ratio[ROUNDS], bytes = 0;
+    same_answers(job);
+    for (int k = 0; k < ROTATION; k++)
+        bytes += (double)bytes_of(job, &inputs[k]) / ROTATION;
+    int times = 1 + (int)(ROUND_NS / (time_calls(job, false, 1) * ROTATION));
+    for (int k = 0; k < ROUNDS; k++) {
+        bool first = k % 2;
+        double x = time_calls(job, first, times), y = time_calls(job, !first, times);
+        library[k] = first ? x : y;
+        plain[k] = first ? y : x;
+        ratio[k] = library[k] / plain[k];
+    }
+    qsort(library, ROUNDS, sizeof *library, ascending);
+    qsort(plain, ROUNDS, sizeof *plain, ascending);
+    qsort(ratio, ROUNDS, sizeof *ratio, ascending);
+    int low = ROUNDS / 4, middle = ROUNDS / 2, high = ROUNDS - 1 - ROUNDS / 4;
+    printf("%-34s %7.0f %10.0f %8.0f %10.0f %8.0f   %.2f (%.2f to %.2f)\n", name, bytes, library[middle],
+           bytes / library[middle] * 1000, plain[middle], bytes / plain[middle] * 1000, ratio[middle], ratio[low], ratio[high]);
+    return library[middle] / bytes;
+}
+
+static void runs(enum job job, const char *job_name, bool irregular)
+{
+    static const size_t sizes[] = { 1024, 8192, 65536 };
+    double cost[3];
+    for (int s = 0; s < 3; s++) {
+        char name[64];
+        for (int k = 0; k < ROTATION; k++) {
+            make_table(&inputs[k], irregular ? 8 : 2, irregular ? 8 : 2, irregular ? 60 : 6);
+            make_run(&inputs[k], irregular, sizes[s]);
+        }
+        snprintf(name, sizeof name, "%s, %s, %zu KB", job_name, irregular ? "irregular" : "regular", sizes[s] / 1024);
+        cost[s] = measure(name, job);
+    }
+    printf("    a byte at 64 KB costs %.2f of a byte at 8 KB\n", cost[2] / cost[1]);
+}
+
+static void tables(uint32_t states, uint32_t count)
+{
+    char name[64];
+    for (int k = 0; k < ROTATION; k++)
+        make_table(&inputs[k], states, count, 60);
+    snprintf(name, sizeof name, "table check, %u states, %u inputs", states, count);
+    measure(name, CHECK_TABLE);
+    snprintf(name, sizeof name, "reaction, %u states, %u inputs", states, count);
+    measure(name, REACTION);
+}
+
+int main(void)
+{
+    printf("%-34s %7s %10s %8s %10s %8s   %s\n", "", "bytes", "library ns", "MB/s", "plain ns", "MB/s", "library / plain C");
+    runs(CHECK_JOURNAL, "journal check", false);
+    runs(CHECK_JOURNAL, "journal check", true);
+    runs(RUN, "runtime", false);
+    runs(RUN, "runtime", true);
+    tables(2, 2);
+    tables(32, 32);
+    return 0;
+}

@@ -1,0 +1,20 @@
+/* The four entries as an engineer would write them in C for use and not for proof: what host/bench measures the library
+ * against. They answer as the functions of include/krossvil.h do, and host/bench tests that before it measures. */
+#ifndef PLAIN_H
+#define PLAIN_H
+
+#include <stddef.h>
+#include <stdint.h>
+
+uint64_t plain_check_table(const uint8_t *table, size_t table_len);
+
+uint64_t plain_check_journal(const uint8_t *table, size_t table_len, const uint8_t *journal, size_t journal_len,
+                             uint8_t *answer, size_t answer_len);
+
+uint64_t plain_run(const uint8_t *table, size_t table_len, const uint8_t *stimulus, size_t stimulus_len,
+                   uint8_t *journal, size_t journal_len, uint8_t *answer, size_t answer_len);
+
+uint64_t plain_reaction(const uint8_t *table, size_t table_len, uint32_t states, uint32_t inputs, uint8_t *answer,
+                        size_t answer_len);
+
+#endif
