@@ -20,29 +20,20 @@ const SELF_LOOP: [u8; 99] = *b"\
     \x14\0\x05\0\0\0\x09\0\
     \x1F\0\x04\0\0\0\x0A";
 
-// The same as though the tick at 6 had started the hold again.
-const HOLD_STARTED_AGAIN: [u8; 99] = *b"\
-    \x10\0\x01\0\
-    \x11\0\x05\0\0\0\x01\x01\
-    \x12\0\x05\0\0\0\x02\x01\
-    \x13\0\x05\0\0\0\x02\x01\
-    \x14\0\x05\0\0\0\x03\x01\
-    \x12\0\x05\0\0\0\x04\x01\
-    \x13\0\x05\0\0\0\x05\x01\
-    \x14\0\x05\0\0\0\x06\x01\
-    \x11\0\x05\0\0\0\x07\0\
-    \x12\0\x05\0\0\0\x08\0\
-    \x13\0\x05\0\0\0\x09\0\
-    \x14\0\x05\0\0\0\x09\0\
-    \x1F\0\x04\0\0\0\x0A";
-
 pub fn run() {
     print::text(b"Journal check\n");
     first_fields();
     later_fields();
     show(b"more than 65,536 bytes", &[0; 65537]);
     show(b"a state that moves to itself", &SELF_LOOP);
-    show(b"the same, held at 9", &HOLD_STARTED_AGAIN);
+    hold_started_again();
+}
+
+// The same as though the tick at 6 had started the hold again: byte 83 is the verdict of the test at 9.
+fn hold_started_again() {
+    let mut bytes = SELF_LOOP;
+    bytes[83] = 0;
+    show(b"the same, held at 9", &bytes);
 }
 
 fn first_fields() {
