@@ -1,6 +1,8 @@
 /* Times the library and plain C (host/plain.c) on the same bytes, in one process and in turns, and prints for each job the
  * median time of a call, how far the middle half of the rounds spreads, and the ratio of the library to plain C. Each job
- * has several inputs in rotation, so that no branch is learnt by heart. Times are comparable only within one run. */
+ * has several inputs in rotation, so that no branch is learnt by heart. Times are comparable only within one run.
+ * With the argument `count` it calls each once, between marks, and prints each job's name and bytes: for an emulator that
+ * logs every instruction, where times say nothing. */
 #include "krossvil.h"
 #include "plain.h"
 
@@ -212,6 +214,25 @@ static int ascending(const void *a, const void *b)
     return (x > y) - (x < y);
 }
 
+static bool counting;
+
+/* In a log of instructions, this name stands before the library's call, between the two, and behind plain C's. */
+__attribute__((noinline)) static void mark(void)
+{
+    __asm__ volatile("");
+}
+
+static void count(const char *name, enum job job)
+{
+    uint8_t answer[20];
+    mark();
+    sink = call(job, true, &inputs[0], answer);
+    mark();
+    sink = call(job, false, &inputs[0], answer);
+    mark();
+    printf("%s|%zu\n", name, bytes_of(job, &inputs[0]));
+}
+
 /* Prints a line, and returns the library's nanoseconds a byte. */
 static double measure(const char *name, enum job job)
 {
@@ -236,36 +257,54 @@ static double measure(const char *name, enum job job)
     return library[middle] / bytes;
 }
 
+/* As many inputs as are called. */
+static int used(void)
+{
+    return counting ? 1 : ROTATION;
+}
+
+static double report(const char *name, enum job job)
+{
+    if (!counting)
+        return measure(name, job);
+    count(name, job);
+    return 0;
+}
+
 static void runs(enum job job, const char *job_name, bool irregular)
 {
     static const size_t sizes[] = { 1024, 8192, 65536 };
     double cost[3];
     for (int s = 0; s < 3; s++) {
         char name[64];
-        for (int k = 0; k < ROTATION; k++) {
+        for (int k = 0; k < used(); k++) {
             make_table(&inputs[k], irregular ? 8 : 2, irregular ? 8 : 2, irregular ? 60 : 6);
             make_run(&inputs[k], irregular, sizes[s]);
         }
         snprintf(name, sizeof name, "%s, %s, %zu KB", job_name, irregular ? "irregular" : "regular", sizes[s] / 1024);
-        cost[s] = measure(name, job);
+        cost[s] = report(name, job);
     }
-    printf("    a byte at 64 KB costs %.2f of a byte at 8 KB\n", cost[2] / cost[1]);
+    if (!counting)
+        printf("    a byte at 64 KB costs %.2f of a byte at 8 KB\n", cost[2] / cost[1]);
 }
 
-static void tables(uint32_t states, uint32_t count)
+static void tables(uint32_t states, uint32_t count_of_inputs)
 {
     char name[64];
-    for (int k = 0; k < ROTATION; k++)
-        make_table(&inputs[k], states, count, 60);
-    snprintf(name, sizeof name, "table check, %u states, %u inputs", states, count);
-    measure(name, CHECK_TABLE);
-    snprintf(name, sizeof name, "reaction, %u states, %u inputs", states, count);
-    measure(name, REACTION);
+    for (int k = 0; k < used(); k++)
+        make_table(&inputs[k], states, count_of_inputs, 60);
+    snprintf(name, sizeof name, "table check, %u states, %u inputs", states, count_of_inputs);
+    report(name, CHECK_TABLE);
+    snprintf(name, sizeof name, "reaction, %u states, %u inputs", states, count_of_inputs);
+    report(name, REACTION);
 }
 
-int main(void)
+int main(int argc, char **argv)
 {
-    printf("%-34s %7s %10s %8s %10s %8s   %s\n", "", "bytes", "library ns", "MB/s", "plain ns", "MB/s", "library / plain C");
+    counting = argc == 2 && strcmp(argv[1], "count") == 0;
+    if (!counting)
+        printf("%-34s %7s %10s %8s %10s %8s   %s\n", "", "bytes", "library ns", "MB/s", "plain ns", "MB/s",
+               "library / plain C");
     runs(CHECK_JOURNAL, "journal check", false);
     runs(CHECK_JOURNAL, "journal check", true);
     runs(RUN, "runtime", false);

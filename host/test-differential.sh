@@ -1,6 +1,7 @@
 #!/usr/bin/env bash
 # Holds the library against the reference in C (host/differential.c), then shows that the same test catches each of the
-# reference's faults; and runs the example host. Builds only under target/. The last line is `N passed, M failed`.
+# reference's faults. Runs the example host, and measures how much stack the functions need. Builds only under target/.
+# The last line is `N passed, M failed`.
 #
 #   host/test-differential.sh [--self] [CASES [SEED]]
 #
@@ -35,31 +36,9 @@ stop() { # MESSAGE: nothing more can be tried
     finish
 }
 
-# The library is x86-64 code. Elsewhere Debian's cross compiler and qemu stand in.
-native=yes
-compiler=gcc
-run=()
-link=()
-if [ "$(uname -m)" != x86_64 ]; then
-    native=no
-    compiler=x86_64-linux-gnu-gcc
-    run=(qemu-x86_64-static)
-    link=(-static)
-    missing=()
-    command -v "$compiler" >/dev/null || missing+=(gcc-x86-64-linux-gnu)
-    command -v "${run[0]}" >/dev/null || missing+=(qemu-user-static)
-    case $("$compiler" -print-file-name=libc.a 2>/dev/null) in
-    '' | libc.a) missing+=(libc6-dev-amd64-cross) ;; # no compiler, or it finds no C library
-    esac
-    if [ "${#missing[@]}" -gt 0 ]; then
-        echo "installing ${missing[*]}"
-        as_root=()
-        [ "$(id -u)" -eq 0 ] || as_root=(sudo -n)
-        "${as_root[@]}" env DEBIAN_FRONTEND=noninteractive apt-get -q update </dev/null >/dev/null
-        "${as_root[@]}" env DEBIAN_FRONTEND=noninteractive apt-get -q -y --no-install-recommends install \
-            "${missing[@]}" </dev/null >/dev/null || stop "could not install ${missing[*]}"
-    fi
-fi
+# shellcheck source=host/x86-64.sh
+. host/x86-64.sh
+install_missing || stop "could not install what is missing"
 
 mkdir -p "$out" || stop "could not make $out"
 if [ "$self" = no ]; then
@@ -125,6 +104,10 @@ if [ "$self" = no ]; then
         echo "the example host printed something else than examples/classroom/host.txt"
         failed=$((failed + 1))
     fi
+
+    echo "== the stack that the functions need"
+    compile -D_DEFAULT_SOURCE host/stack.c "$library" "${link[@]}" -o "$out/stack" || stop "did not build"
+    try stack 0
 fi
 
 # Each fault, in a second reference on the library's side. Only a mismatch counts as caught.

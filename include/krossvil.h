@@ -2,7 +2,7 @@
  * krossvil: a table check, a journal check, a runtime and a reaction calculator for polling controllers, for a host program in C.
  *
  * Link with libkrossvil.a (x86-64). The functions keep no state, allocate nothing, call only memcpy and memset, and never stop the program:
- * each ends with an answer on any bytes. krossvil_run needs about 80,000 bytes of stack.
+ * each ends with an answer on any bytes. How much stack they need is below; that is measured, not proved.
  *
  * Slices. A slice is a pointer and the number of bytes at it. The pointer is never null, not even if the number is 0, and a slice
  * that a function writes to (without const) shares no byte with another slice of the same call.
@@ -77,6 +77,9 @@ extern "C" {
 
 #define KROSSVIL_JOURNAL_MAX 65536u /* a journal buffer of this size is never too short */
 #define KROSSVIL_STIMULUS_MAX 57344u
+
+#define KROSSVIL_RUN_STACK 80000u /* bytes of stack that are enough for krossvil_run */
+#define KROSSVIL_STACK 12000u     /* and for the other functions */
 
 #define KROSSVIL_JOURNAL_ANSWER 20u /* bytes of answer on success: T, ticks, moves, last state, its output */
 #define KROSSVIL_RUN_ANSWER 4u      /* the journal's length in bytes */

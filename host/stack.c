@@ -1,0 +1,93 @@
+/* How many bytes of stack the library's functions touch. Each call runs on a painted stack of its own, and the paint that is
+ * gone is counted. Fails where that is more than include/krossvil.h says. */
+#include "krossvil.h"
+
+#include <stdio.h>
+#include <string.h>
+#include <ucontext.h>
+
+enum { ROOM = 1 << 20, PAINT = 0xA5 };
+
+/* One state and one input, E is 60,000, no hold. */
+static const uint8_t table[] = { 1, 0, 4, 1, 1, 1, 0, 2, 0, 4, 0, 0, 0xEA, 0x60, 3, 0, 1, 0,
+                                 4, 0, 1, 0, 5, 0, 4, 0, 0, 0, 0, 6, 0, 4, 0, 0, 0, 0 };
+static uint8_t stimulus[KROSSVIL_STIMULUS_MAX], journal[KROSSVIL_JOURNAL_MAX], answer[KROSSVIL_JOURNAL_ANSWER];
+static size_t stimulus_len, journal_len;
+static _Alignas(16) uint8_t stack[ROOM];
+static ucontext_t here, there;
+static uint64_t code;
+
+/* Polls, tests and ticks, a cycle at each instant, up to so many bytes; then the end. */
+static void make_stimulus(size_t size)
+{
+    uint32_t time = 0;
+    uint8_t *b = stimulus;
+    memcpy(b, (uint8_t[]){ 0x20, 0, 1, 0 }, 4);
+    b += 4;
+    for (unsigned tag = 0x22; (size_t)(b - stimulus) + 14 <= size; tag = tag == 0x24 ? 0x22 : tag + 1) {
+        time += tag == 0x22;
+        memcpy(b, (uint8_t[]){ (uint8_t)tag, 0, 4, 0, 0, (uint8_t)(time >> 8), (uint8_t)time }, 7);
+        b += 7;
+    }
+    memcpy(b, (uint8_t[]){ 0x2F, 0, 4, 0, 0, (uint8_t)(time >> 8), (uint8_t)time }, 7);
+    stimulus_len = (size_t)(b - stimulus) + 7;
+}
+
+static void check_table(void)
+{
+    code = krossvil_check_table(table, sizeof table);
+}
+
+static void check_journal(void)
+{
+    code = krossvil_check_journal(table, sizeof table, journal, journal_len, answer, sizeof answer);
+}
+
+static void run(void)
+{
+    code = krossvil_run(table, sizeof table, stimulus, stimulus_len, journal, sizeof journal, answer, sizeof answer);
+}
+
+static void reaction(void)
+{
+    code = krossvil_reaction(table, sizeof table, 1, 1, answer, sizeof answer);
+}
+
+static void call_on_own_stack(void (*call)(void))
+{
+    memset(stack, PAINT, sizeof stack);
+    getcontext(&there);
+    there.uc_stack.ss_sp = stack;
+    there.uc_stack.ss_size = sizeof stack;
+    there.uc_link = &here;
+    makecontext(&there, call, 0);
+    swapcontext(&here, &there);
+}
+
+/* 1 if the call succeeds within so many bytes. */
+static int measure(const char *name, void (*call)(void), size_t promised)
+{
+    size_t left = 0;
+    call_on_own_stack(call);
+    while (left < sizeof stack && stack[left] == PAINT)
+        left++;
+    int good = code == 0 && sizeof stack - left <= promised;
+    printf("%-13s %6zu bytes of stack, at most %6zu: %s\n", name, sizeof stack - left, promised, good ? "ok" : "WRONG");
+    return good;
+}
+
+int main(void)
+{
+    static const size_t sizes[] = { 1000, 10000, KROSSVIL_STIMULUS_MAX };
+    int passed = 0;
+    for (int k = 0; k < 3; k++) {
+        make_stimulus(sizes[k]);
+        passed += measure("run", run, KROSSVIL_RUN_STACK);
+    }
+    journal_len = krossvil_read(answer, 0);
+    passed += measure("check_journal", check_journal, KROSSVIL_STACK);
+    passed += measure("check_table", check_table, KROSSVIL_STACK);
+    passed += measure("reaction", reaction, KROSSVIL_STACK);
+    printf("%d passed, %d failed\n", passed, 6 - passed);
+    return passed != 6;
+}
