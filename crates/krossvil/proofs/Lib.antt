@@ -4,3 +4,4 @@ pub mod RunPlaces
 pub mod ReactionPlaces
 pub mod Telling
 pub mod Answers
+pub mod Determined
