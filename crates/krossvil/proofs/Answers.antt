@@ -7,7 +7,7 @@ use native.Mathlib.Omega.{arith}
 use borrow.Author.Tests.{lt-ltb, le-ltb}
 use types.Run.{OneOf, miss}
 use denote.Enum.Declared.{tagOf}
-use lib.ListN.{length}
+use lib.ListN.{length, getD}
 use Rattle.wire.specs.Choice.{_<?_, if_then_else_}
 use Rattle.journal.specs.declared.Answer as journal′
 use Rattle.journal.specs.declared.Answer.the-variants as checked
@@ -15,12 +15,11 @@ use Rattle.journal.proofs.Answer as JournalT
 use Rattle.runtime.specs.declared.Answer as runtime′
 use Rattle.runtime.specs.declared.Answer.the-variants as ran
 use Rattle.runtime.specs.Run.{Run, journal, refused, answerOf, bufferOf}
-use Rattle.runtime.specs.Answer as runtime
 use Rattle.runtime.proofs.Answer as RuntimeT
 use Rattle.reaction.specs.declared.Answer as reaction′
 use Rattle.reaction.specs.declared.Answer.the-variants as reacted
 use Rattle.reaction.proofs.Answer as ReactionT
-use Rattle.krossvil.specs.Host.{numbered, codeOf, numberBytes, answerAfter, journalNumbers, runNumbers, runCode, journalAfter, reactionNumbers}
+use Rattle.krossvil.specs.Host.{codeOf, numberBytes, answerAfter, journalNumbers, runNumbers, runCode, journalAfter, reactionNumbers}
 
 -- What a `let .. else` on a success leaves has no numbers.
 pub journal-none : (a : journal′.Answer) → OneOf (1 ∷ 2 ∷ 3 ∷ []) (tagOf JournalT.the-type a) → journalNumbers a ≡ []
@@ -44,70 +43,46 @@ reaction-none reacted.UnknownState h = refl
 reaction-none reacted.UnknownInput h = refl
 reaction-none (reacted.LeavesStates at) h = refl
 
+pub size-fits : (a : runtime′.Answer) (size : ℕ) → a ≡ ran.Written size → getD (runNumbers a) 0 0 ≤ 65536 → size ≤ 65536
+size-fits a size e h = rw e at h
+
 -- ---- The runtime with an answer buffer that is too short
 
 module _ (l : List ℕ) (short : length l < 4) where
-  zero-short : (length l <? 0) ≡ false
-  zero-short = le-ltb (length l) 0 (omega arith)
-
-  -- Any answer's code is then the code with an answer buffer of no bytes, and the buffer is as it was.
-  same-code : (a : runtime′.Answer) → runCode a 0 ≡ runCode a (length l)
-  unfolding codeOf
-  same-code (ran.Written size) = rw (lt-ltb (length l) 4 short) refl
-  same-code (ran.TableRefused answer) = rw zero-short refl
-  same-code ran.TooLong = rw zero-short refl
-  same-code (ran.Refused refusal place) = rw zero-short refl
-  same-code ran.JournalTooLong = rw zero-short refl
-  same-code ran.BufferTooShort = rw zero-short refl
-
-  unchanged : (a : runtime′.Answer) → l ≡ answerAfter (runNumbers a) l
-  unfolding answerAfter numberBytes
-  unchanged (ran.Written size) = rw (lt-ltb (length l) 4 short) refl
-  unchanged (ran.TableRefused answer) = rw zero-short refl
-  unchanged ran.TooLong = rw zero-short refl
-  unchanged (ran.Refused refusal place) = rw zero-short refl
-  unchanged ran.JournalTooLong = rw zero-short refl
-  unchanged ran.BufferTooShort = rw zero-short refl
-
-  -- With no bytes for the answer the room for the journal makes no difference: both give 30 at 0.
-  any-room : (run : Run) (room other : ℕ) → runCode (answerOf run room) 0 ≡ runCode (answerOf run other) 0
-  unfolding answerOf codeOf
-  any-room (refused a) room other = refl
+  -- With room for no number, the room for the journal makes no difference: a success is 30 at 0 either way, and the answer is as it was.
+  any-room : (run : Run) (room other : ℕ) →
+      (runCode (answerOf run room) (length l) ≡ runCode (answerOf run other) (length l))
+      × (answerAfter (runNumbers (answerOf run room)) l ≡ answerAfter (runNumbers (answerOf run other)) l)
+  unfolding answerOf codeOf answerAfter numberBytes
+  any-room (refused a) room other = (refl, refl)
   any-room (journal bytes) room other = go (65536 <? length bytes) (room <? length bytes) (other <? length bytes)
     where
+      told : Bool → Bool → runtime′.Answer
+      told long short = if long then ran.JournalTooLong else if short then ran.BufferTooShort else ran.Written (length bytes)
+
       go : (long b c : Bool) →
-          runCode (if long then ran.JournalTooLong else if b then ran.BufferTooShort else ran.Written (length bytes)) 0
-          ≡ runCode (if long then ran.JournalTooLong else if c then ran.BufferTooShort else ran.Written (length bytes)) 0
-      go true b c = refl
-      go false true true = refl
-      go false true false = refl
-      go false false true = refl
-      go false false false = refl
+          (runCode (told long b) (length l) ≡ runCode (told long c) (length l))
+          × (answerAfter (runNumbers (told long b)) l ≡ answerAfter (runNumbers (told long c)) l)
+      go true b c = (refl, refl)
+      go false true true = (refl, refl)
+      go false true false = rw (lt-ltb (length l) 4 short, le-ltb (length l) 0 (omega arith)) (refl, refl)
+      go false false true = rw (lt-ltb (length l) 4 short, le-ltb (length l) 0 (omega arith)) (refl, refl)
+      go false false false = (refl, refl)
 
-  pub short-owed : (run : Run) (room : ℕ) (buffer : List ℕ) (a : runtime′.Answer) → a ≡ answerOf run room → (code : ℕ) → code ≡ runCode a 0 →
+  pub short-owed : (run : Run) (room : ℕ) (buffer : List ℕ) (a : runtime′.Answer) → a ≡ answerOf run room → (code : ℕ) (after : List ℕ) →
+      (code ≡ runCode a (length l)) × (after ≡ answerAfter (runNumbers a) l) →
       (code ≡ runCode (answerOf run (length buffer)) (length l))
-      × ((l ≡ answerAfter (runNumbers (answerOf run (length buffer))) l) × (buffer ≡ journalAfter run (length l) buffer))
+      × ((after ≡ answerAfter (runNumbers (answerOf run (length buffer))) l) × (buffer ≡ journalAfter run (length l) buffer))
   unfolding journalAfter
-  short-owed run room buffer a is code e = (
-    e ∙ ap (λ x. runCode x 0) is ∙ any-room run room (length buffer) ∙ same-code (answerOf run (length buffer)),
-    (unchanged (answerOf run (length buffer)), rw (lt-ltb (length l) 4 short) refl),
-  )
+  short-owed run room buffer a is code after owed =
+      let same = any-room run room (length buffer) in
+      (owed .0 ∙ ap (λ x. runCode x (length l)) is ∙ same .0, (owed .1 ∙ ap (λ x. answerAfter (runNumbers x) l) is ∙ same .1, rw (lt-ltb (length l) 4 short) refl))
 
-pub journal-written : (run : Run) (room : ℕ) (buffer after : List ℕ) → 4 ≤ room → after ≡ bufferOf run buffer → after ≡ journalAfter run room buffer
+pub long-owed : (l : List ℕ) → 4 ≤ length l → (run : Run) (buffer written : List ℕ) → written ≡ bufferOf run buffer →
+    (a : runtime′.Answer) → a ≡ answerOf run (length buffer) → (code : ℕ) (after : List ℕ) →
+    (code ≡ runCode a (length l)) × (after ≡ answerAfter (runNumbers a) l) →
+    (code ≡ runCode (answerOf run (length buffer)) (length l))
+    × ((after ≡ answerAfter (runNumbers (answerOf run (length buffer))) l) × (written ≡ journalAfter run (length l) buffer))
 unfolding journalAfter
-journal-written run room buffer after h e = rw (le-ltb room 4 h) e
-
--- The code with no bytes for the answer: a refusal's own, and 30 at 0 for a success.
-pub run-refused-code : (a : runtime′.Answer) → OneOf (1 ∷ 2 ∷ 3 ∷ 4 ∷ 5 ∷ []) (tagOf RuntimeT.the-type a) → (n p code : ℕ) → n ≡ runtime.numberOf a →
-    p ≡ runtime.placeOf a → code ≡ numbered n p → code ≡ runCode a 0
-unfolding codeOf
-run-refused-code a h n p code en ep e = rw (run-none a h, e, en, ep) refl
-
-pub run-written-code : (a : runtime′.Answer) → OneOf (0 ∷ []) (tagOf RuntimeT.the-type a) → (code : ℕ) → code ≡ numbered 30 0 → code ≡ runCode a 0
-unfolding codeOf
-run-written-code (ran.Written size) h code e = e
-run-written-code (ran.TableRefused answer) h code e = absurd (miss (0 ∷ []) 1 tt h)
-run-written-code ran.TooLong h code e = absurd (miss (0 ∷ []) 2 tt h)
-run-written-code (ran.Refused refusal place) h code e = absurd (miss (0 ∷ []) 3 tt h)
-run-written-code ran.JournalTooLong h code e = absurd (miss (0 ∷ []) 4 tt h)
-run-written-code ran.BufferTooShort h code e = absurd (miss (0 ∷ []) 5 tt h)
+long-owed l long run buffer written w a is code after owed =
+    (owed .0 ∙ ap (λ x. runCode x (length l)) is, (owed .1 ∙ ap (λ x. answerAfter (runNumbers x) l) is, rw (le-ltb (length l) 4 long) w))

@@ -2,6 +2,6 @@ pub mod TablePlaces
 pub mod JournalPlaces
 pub mod RunPlaces
 pub mod ReactionPlaces
-pub mod Telling
+pub mod Outcomes
 pub mod Answers
 pub mod Determined

@@ -122,8 +122,5 @@ answer-small (journal bytes) room h = go (65536 <? length bytes) refl (room <? l
     go false e true = ((omega arith, omega arith), omega arith)
     go false e false = ((omega arith, omega arith), ltb-false 65536 (length bytes) e)
 
-pub run-small : (bytes s : List ℕ) (room : ℕ) → RunSmall (answerOf (runOf bytes s) room)
-run-small bytes s room = answer-small (runOf bytes s) room (run-refuses bytes s)
-
-pub size-below : (bytes s : List ℕ) (room size : ℕ) → Written size ≡ answerOf (runOf bytes s) room → size ≤ 65536
-size-below bytes s room size e = rw (← e) at (run-small bytes s room .1)
+pub run-small : (bytes s : List ℕ) (room : ℕ) (a : Answer) → a ≡ answerOf (runOf bytes s) room → RunSmall a
+run-small bytes s room a is = rw is (answer-small (runOf bytes s) room (run-refuses bytes s))

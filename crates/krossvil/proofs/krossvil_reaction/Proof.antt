@@ -1,8 +1,8 @@
-use mathlib.Core.Path.{ap}
+use mathlib.Core.Path.{sym, ap}
 use Rattle.reaction.specs.Answer.{numberOf, placeOf}
 use Rattle.krossvil.specs.Host.{reactionNumbers}
 use Rattle.krossvil.proofs.ReactionPlaces.{reaction-small}
-use Rattle.krossvil.proofs.Telling.{fits, refused, too-short, told, two-put}
+use Rattle.krossvil.proofs.Outcomes.{fits, told}
 use Rattle.krossvil.proofs.Answers.{reaction-none}
 use borrow.Author.Needs.{needs}
 use Rattle.krossvil.proofs.krossvil_reaction.Statement.{statement}
@@ -20,43 +20,35 @@ number-requires c κs = search needs
 place-requires : tie.Need-place-requires
 place-requires c κs = search needs
 
-code-requires : tie.Need-code-requires
-code-requires c κs = fits numberOf placeOf _ _ (c .before .before .before .react .ensures) (reaction-small _ _ _) _ _ (c .before .number .ensures) (c .place .ensures)
-
-returns : tie.Need-returns
-returns c =
-    let entry = c .before .before .before .before .react in
-    refused numberOf placeOf reactionNumbers _ _ (entry .ensures) _ (reaction-none (entry .result) (c .before .before .before .match .keys2)) _ _ _
-    (c .before .before .number .ensures) (c .before .place .ensures) (c .code .ensures)
-
-code-requires-2 : tie.Need-code-requires-2
-code-requires-2 c κs = search needs
-
-returns-2 : tie.Need-returns-2
-returns-2 c =
-    let found = c .before .before .before in
-    too-short numberOf placeOf reactionNumbers _ _ (found .before .before .react .ensures) _ _ (ap reactionNumbers (found .reacted .given .1))
-    (c .before .if1 .taken) _ (c .code2 .ensures)
-
-put32-requires : tie.Need-put32-requires
-put32-requires c κs = search needs
-
-put32-requires-2 : tie.Need-put32-requires-2
-put32-requires-2 c κs = search needs
+refuse-requires : tie.Need-refuse-requires
+refuse-requires c κs =
+    fits numberOf placeOf _ _ (c .before .before .before .before .react .ensures) _ _ (c .before .before .number .ensures) (c .before .place .ensures) (reaction-small _ _ _)
 
 same-length : tie.Need-same-length
 same-length c = search needs
 
-returns-3 : tie.Need-returns-3
-returns-3 c =
-    let second = c .before .before in
-    let first = second .before .before .before .before in
-    let found = first .before .before .before .before in
+returns : tie.Need-returns
+returns c =
+    let place = c .before .before .before .before in
+    let entry = place .before .before .before .react in
+    told numberOf placeOf _ _ (entry .ensures) _ _ (place .before .number .ensures) (place .place .ensures) reactionNumbers _
+    (sym (reaction-none (entry .result) (place .before .before .match .keys2))) _ _ _ (c .before .before .refuse .ensures)
+
+slice-aggregate-tell : tie.Need-slice-aggregate-tell
+slice-aggregate-tell c = search needs
+
+tell-requires : tie.Need-tell-requires
+tell-requires c κs = search needs
+
+same-length-2 : tie.Need-same-length-2
+same-length-2 c = search needs
+
+returns-2 : tie.Need-returns-2
+returns-2 c =
+    let found = c .before .before .before .before .before .before in
     let is = found .reacted .given .1 in
-    let buffer = found .before .before .before .before .before .args .answer .now in
-    told numberOf placeOf reactionNumbers _ _ (found .before .before .react .ensures) buffer _ (ap reactionNumbers is) (first .before .before .if1 .left)
-    (ap numberOf is) (ap placeOf is) _
-    (two-put buffer _ _ (first .put32 .ensures) _ _ (second .put322 .ensures))
+    told numberOf placeOf _ _ (found .before .before .react .ensures) _ _ (sym (ap numberOf is)) (sym (ap placeOf is)) reactionNumbers _ (sym (ap reactionNumbers is)) _ _ _
+    (c .before .before .tell .ensures)
 
 pub krossvil-reaction-spec : {M : Type 1} → statement M
 krossvil-reaction-spec =
@@ -66,11 +58,10 @@ krossvil-reaction-spec =
     enum-known-reacted
     number-requires
     place-requires
-    code-requires
-    returns
-    code-requires-2
-    returns-2
-    put32-requires
-    put32-requires-2
+    refuse-requires
     same-length
-    returns-3)
+    returns
+    slice-aggregate-tell
+    tell-requires
+    same-length-2
+    returns-2)

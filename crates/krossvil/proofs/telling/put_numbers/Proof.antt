@@ -1,0 +1,62 @@
+use Prim.Native.Nat.{_-_}
+use native.Mathlib.Omega.{arith}
+use borrow.Author.Needs.{needs}
+use lib.ListN.{length}
+use Rattle.krossvil.proofs.Outcomes.{Put, put-none, put-length, put-next, put-all}
+use Rattle.krossvil.proofs.telling.put_numbers.Statement.{statement}
+use Rattle.krossvil.proofs.telling.put_numbers.Tie as tie
+
+abbrev Inv-loop : tie.InvT-loop
+Inv-loop numbers out₀ k₀ out k = Put numbers out₀ out k
+
+abbrev μ-loop : tie.MeasureT-loop
+μ-loop numbers out₀ k₀ out k = length numbers - k
+
+loop-holds : tie.Need-loop-holds Inv-loop μ-loop
+loop-holds c = put-none _ _ (c .before .before .pre)
+
+mul-put32 : tie.Need-mul-put32 Inv-loop μ-loop
+mul-put32 c = search needs
+
+mul-put32-2 : tie.Need-mul-put32-2 Inv-loop μ-loop
+mul-put32-2 c = search needs
+
+shared-slice-read-put32 : tie.Need-shared-slice-read-put32 Inv-loop μ-loop
+shared-slice-read-put32 c = search needs
+
+put32-requires : tie.Need-put32-requires Inv-loop μ-loop
+put32-requires c κs =
+    let inv = c .before .before .before .loop .inv in
+    omega (arith, put-length _ _ _ _ inv, inv .room, c .before .before .loop-test .taken)
+
+add-k : tie.Need-add-k Inv-loop μ-loop
+add-k c = search needs
+
+loop-less : tie.Need-loop-less Inv-loop μ-loop
+loop-less c = search needs
+
+loop-again : tie.Need-loop-again Inv-loop μ-loop
+loop-again c = put-next _ _ _ _ (c .before .before .before .before .before .before .loop .inv) (c .before .before .before .before .before .loop-test .taken) _ (c .before .before .put32 .ensures)
+
+same-length : tie.Need-same-length Inv-loop μ-loop
+same-length c = put-length _ _ _ _ (c .before .loop .inv)
+
+returns : tie.Need-returns Inv-loop μ-loop
+returns c = put-all _ _ _ _ (c .before .loop .inv) (c .loop-test .left)
+
+pub put-numbers-spec : {M : Type 1} → statement M
+put-numbers-spec =
+    tie.close
+    (tie.spec
+    Inv-loop
+    μ-loop
+    loop-holds
+    mul-put32
+    mul-put32-2
+    shared-slice-read-put32
+    put32-requires
+    add-k
+    loop-less
+    loop-again
+    same-length
+    returns)
