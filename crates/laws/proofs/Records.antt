@@ -11,7 +11,7 @@ use Rattle.wire.specs.Choice.{_<?_, if_then_else_}
 use Rattle.wire.specs.Field.{byteAt, number32At, fieldAt}
 use Rattle.wire.specs.Encode.{Bytes, bytes32, field}
 use Rattle.wire.proofs.Choice.{never}
-use Rattle.wire.proofs.Laws.{WholeAt, whole-is}
+use Rattle.wire.proofs.Laws.{WholeAt, whole-is, StandsAt}
 use Rattle.wire.proofs.Bytes.{byte-written, field-written, byte-read, field-read}
 use Rattle.machine.specs.declared.Record.{Record}
 use Rattle.machine.specs.declared.Record.the-variants.{Change, Poll, Test, Tick, End}
@@ -23,7 +23,7 @@ use Rattle.journal.specs.declared.Read.the-variants as read
 use Rattle.journal.specs.Records.{lengthFits, openingOf, recordOf, ranged, recordIn, recordAt, isEnd}
 use Rattle.journal.specs.Records.{Items, item, done, broken, nothingAfter, itemOf, itemsFrom}
 use Rattle.journal.specs.Encode.{bytesOf, encodeRecords, placed, Inner}
-use Rattle.journal.proofs.Reading.{RecordAt, a-record, opening-input, Known, FoundAt, found-at, OpeningAt}
+use Rattle.journal.proofs.Reading.{a-record, opening-input, Known, FoundAt, found-at, OpeningAt}
 use Rattle.journal.proofs.Running.{one-item, end-item}
 use Rattle.laws.specs.Journals.{unbroken}
 use Rattle.laws.proofs.Timed.{timed-written, timed-read}
@@ -55,10 +55,12 @@ module _ (states inputs : ℕ) (s : List ℕ) (at : ℕ) where
       let f = timed-written s rest (value ∷ []) at tag time (omega arith) there in
       let w = f .whole in
       let value-is : byteAt s (at + 7) ≡ value = byte-written s _ (at + 7) (f .holds) (at + 7) 0 (omega arith) in
-      let stands : RecordAt s at = record { room = omega arith; size-is = w .size-is; low = rw (w .tag-is) low; high = rw (w .tag-is) high } in
+      let room : at + 8 ≤ length s = omega arith in
+      let whole : WholeAt s at (byteAt s at) 5 = record { tag-is = refl; size-is = w .size-is; fits = omega arith } in
+      let stands : StandsAt 5 0x11 0x14 s at = record { whole = whole; lowest = rw (w .tag-is) low; highest = rw (w .tag-is) high } in
       let read-is = a-record states inputs s at stands time value (sym (f .time-is)) (sym value-is) in
       let z : at + 7 + 1 ≡ at + 8 = omega arith in
-      record { found = sym read-is ∙ rw (w .tag-is, fits); room = stands .room; ends = rw z at (f .ends) }
+      record { found = sym read-is ∙ rw (w .tag-is, fits); room = room; ends = rw z at (f .ends) }
 
   record-written : (rest : List ℕ) (r : Record) → isEnd r ≡ false → recordInRange states inputs r ≡ true → drop at s ≡ bytesOf r ++ rest →
       ReadAgain states inputs s rest at r

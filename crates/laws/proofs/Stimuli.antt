@@ -22,7 +22,7 @@ use Rattle.runtime.specs.declared.Read.{Read}
 use Rattle.runtime.specs.declared.Read.the-variants as read
 use Rattle.runtime.specs.Events.{eventOf, eventInRange, eventAt, sizeOf, isEnd, Events, event, done, broken, nothingAfter, eventsOf, eventsFrom}
 use Rattle.runtime.specs.Encode.{eventBytes, encodeEvents, placed, Inner}
-use Rattle.runtime.proofs.Stimulus.{which, timed, a-change, FoundAt, found-at}
+use Rattle.runtime.proofs.Stimulus.{which, in-range, timed-is, a-change, FoundAt, found-at}
 use Rattle.runtime.proofs.Producing.{one-event, end-event, size-bounds}
 use Rattle.laws.proofs.Timed.{timed-written, timed-read}
 
@@ -44,7 +44,7 @@ module _ (inputs : ℕ) (s : List ℕ) (at : ℕ) (rest : List ℕ) where
       let z : at + 7 + 0 ≡ at + sizeOf e = omega arith in
       record {
         found =
-            sym (timed inputs s at (fieldAt s at) refl tag 4 stands fits other time (sym (f .time-is)) (leb-true time latest early) no-change e is);
+            sym (in-range inputs tag time no-change (leb-true time latest early) e is ∙ timed-is inputs s at (fieldAt s at) refl tag 4 stands fits other time (sym (f .time-is)) no-change);
         room = omega (arith, f .whole .fits);
         ends = rw z at (f .ends);
       }

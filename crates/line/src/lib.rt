@@ -1,6 +1,5 @@
 // The line that `checkjournal` prints for an answer of the journal check. It is written into a lent buffer, so that its bytes can be
 // promised: no contract can speak of what a program prints.
-ghost use mathlib.Core.Path.{_≡_};
 ghost use mathlib.Core.List.{_++_};
 ghost use Prim.Native.Nat.{_+_, _≤_};
 ghost use lib.ListN.{length};
