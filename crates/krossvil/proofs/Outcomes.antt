@@ -4,10 +4,9 @@ use mathlib.Core.List.{List, [], _∷_, _++_}
 use Prim.Native.Nat.{ℕ, suc, _+_, _*_, _<_, _≤_}
 use native.Mathlib.Omega.{arith}
 use borrow.Author.Tests.{lt-ltb, le-ltb}
-use lib.ListN.{length, getD, take, drop, set, length-append, length-drop}
-use lib.Seq.{drop-append-add, length-take-le, sets-eq, take-all, take-at, take-suc, drop-drop}
-use Rattle.wire.specs.Encode.{bytes32}
-use Rattle.runtime.specs.Filling.{placedIn}
+use lib.ListN.{length, getD, take, drop, length-append, length-drop}
+use lib.Seq.{drop-append-add, length-take-le, take-all, take-at, take-suc, drop-drop}
+use Rattle.wire.specs.Encode.{bytes32, placedIn}
 use Rattle.krossvil.proofs.TablePlaces.{Small}
 use Rattle.krossvil.specs.Host.{numbered, codeOf, numberBytes, answerAfter}
 
@@ -92,11 +91,3 @@ module _ (numbers before now : List ℕ) (k : ℕ) (put : Put numbers before now
   put-all h =
       let e : k ≡ length numbers = omega (arith, put .some) in
       put .is ∙ rw (take-all k numbers h, e) refl
-
-pub four-set : (l : List ℕ) (at a b c d : ℕ) → at + 4 ≤ length l →
-    set (set (set (set l at a) (at + 1) b) (at + 2) c) (at + 3) d ≡ placedIn l at (a ∷ b ∷ c ∷ d ∷ [])
-four-set l at a b c d room =
-    let e1 : at + 1 ≡ suc at = omega arith in
-    let e2 : at + 2 ≡ suc (suc at) = omega arith in
-    let e3 : at + 3 ≡ suc (suc (suc at)) = omega arith in
-    rw (e1, e2, e3) (sets-eq (a ∷ b ∷ c ∷ d ∷ []) l at room)

@@ -15,17 +15,17 @@ abbrev μ-loop : tie.MeasureT-loop
 loop-holds : tie.Need-loop-holds Inv-loop μ-loop
 loop-holds c = put-none _ _ (c .before .before .pre)
 
-mul-put32 : tie.Need-mul-put32 Inv-loop μ-loop
-mul-put32 c = search needs
+mul-put-number32 : tie.Need-mul-put-number32 Inv-loop μ-loop
+mul-put-number32 c = search needs
 
-mul-put32-2 : tie.Need-mul-put32-2 Inv-loop μ-loop
-mul-put32-2 c = search needs
+mul-put-number32-2 : tie.Need-mul-put-number32-2 Inv-loop μ-loop
+mul-put-number32-2 c = search needs
 
-shared-slice-read-put32 : tie.Need-shared-slice-read-put32 Inv-loop μ-loop
-shared-slice-read-put32 c = search needs
+shared-slice-read-put-number32 : tie.Need-shared-slice-read-put-number32 Inv-loop μ-loop
+shared-slice-read-put-number32 c = search needs
 
-put32-requires : tie.Need-put32-requires Inv-loop μ-loop
-put32-requires c κs =
+put-number32-requires : tie.Need-put-number32-requires Inv-loop μ-loop
+put-number32-requires c κs =
     let inv = c .before .before .before .loop .inv in
     omega (arith, put-length _ _ _ _ inv, inv .room, c .before .before .loop-test .taken)
 
@@ -36,7 +36,7 @@ loop-less : tie.Need-loop-less Inv-loop μ-loop
 loop-less c = search needs
 
 loop-again : tie.Need-loop-again Inv-loop μ-loop
-loop-again c = put-next _ _ _ _ (c .before .before .before .before .before .before .loop .inv) (c .before .before .before .before .before .loop-test .taken) _ (c .before .before .put32 .ensures)
+loop-again c = put-next _ _ _ _ (c .before .before .before .before .before .before .loop .inv) (c .before .before .before .before .before .loop-test .taken) _ (c .before .before .put-number32 .ensures)
 
 same-length : tie.Need-same-length Inv-loop μ-loop
 same-length c = put-length _ _ _ _ (c .before .loop .inv)
@@ -51,10 +51,10 @@ put-numbers-spec =
     Inv-loop
     μ-loop
     loop-holds
-    mul-put32
-    mul-put32-2
-    shared-slice-read-put32
-    put32-requires
+    mul-put-number32
+    mul-put-number32-2
+    shared-slice-read-put-number32
+    put-number32-requires
     add-k
     loop-less
     loop-again
