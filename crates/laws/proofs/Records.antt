@@ -11,7 +11,8 @@ use Rattle.wire.specs.Choice.{_<?_, if_then_else_}
 use Rattle.wire.specs.Field.{byteAt, number32At, fieldAt}
 use Rattle.wire.specs.Encode.{Bytes, bytes32, field}
 use Rattle.wire.proofs.Choice.{never}
-use Rattle.wire.proofs.Laws.{WholeAt, whole-is, StandsAt}
+use Rattle.wire.proofs.Laws.{WholeAt, whole-is}
+use Rattle.wire.proofs.Standing.{StandsAt}
 use Rattle.wire.proofs.Bytes.{byte-written, field-written, byte-read, field-read}
 use Rattle.machine.specs.declared.Record.{Record}
 use Rattle.machine.specs.declared.Record.the-variants.{Change, Poll, Test, Tick, End}

@@ -35,7 +35,7 @@ impl Answer {
         ensures { λ r. ⌜ r ≡ numberOf self ⌝ }
     {
         match self {
-            Answer::Reacts { time: _, target: _ } => 0,
+            Answer::Reacts { .. } => 0,
             Answer::TableRefused(refusal) => refusal.number(),
             Answer::UnknownState => 9,
             Answer::UnknownInput => 9,
@@ -47,7 +47,7 @@ impl Answer {
         ensures { λ r. ⌜ r ≡ placeOf self ⌝ }
     {
         match self {
-            Answer::Reacts { time: _, target: _ } => 0,
+            Answer::Reacts { .. } => 0,
             Answer::TableRefused(refusal) => refusal.place(),
             Answer::UnknownState => 0,
             Answer::UnknownInput => 1,

@@ -2,3 +2,4 @@ pub mod Choice
 pub mod Laws
 pub mod Bytes
 pub mod Placed
+pub mod Standing

@@ -1,3 +1,4 @@
 pub mod Choice
 pub mod Field
 pub mod Encode
+pub mod Standing

@@ -1,7 +1,7 @@
 -- A poll, a test or a tick gives the same answer either way.
 use mathlib.Core.Path.{sym, _∙_}
 use native.Mathlib.Omega.{arith}
-use Rattle.wire.proofs.Laws.{stands-at}
+use Rattle.wire.proofs.Standing.{stands-at}
 use Rattle.runtime.proofs.Stimulus.{stands-timed}
 use borrow.Author.Needs.{needs}
 use Rattle.runtime.proofs.events.read_event.Statement.{statement}
