@@ -10,26 +10,22 @@ use Rattle.table.specs.Encode.{words}
 use Rattle.table.specs.Check.{named, fieldAnswer, entriesBelow, rowAnswer, inRange, countsInRange, headAnswer, entriesAnswer}
 use Rattle.table.specs.Check.{tableAnswer, tableOf, checkedAs, checkedOf}
 use Rattle.machine.specs.Machine.{heldBy, verdict, stateAfter, gate, step}
-use Rattle.journal.specs.Records.{lengthFits, openingIn, openingOf, recordOf, ranged, recordIn, recordAt, itemsFrom, itemsOf}
-use Rattle.journal.specs.Encode.{bytesOf, encodeRecords, encode}
+use Rattle.records.specs.Reading.{lengthFits, openingIn, openingWith, recordOf, ranged, recordIn, recordAt, itemsFrom, itemsOf}
+use Rattle.records.specs.Encode.{bytesOf, bytesFrom, encode}
 use Rattle.journal.specs.Check as journal
-use Rattle.journal.specs.Check.{ticksIn, movesIn, recordsAnswer, journalAnswer, checkOf}
+use Rattle.journal.specs.Check.{ticksIn, movesIn, recordsAnswer, answerIn, checkOf}
 use Rattle.reaction.specs.Reaction.{nextSet, weightOf, reactionTime, firstLeaving, reactionOf, reactOf}
-use Rattle.runtime.specs.Encode.{eventBytes, encodeEvents, encodeStimulus}
-use Rattle.runtime.specs.Events as events
-use Rattle.runtime.specs.Events.{eventOf, eventIn, eventAt, eventsFrom, eventsIn}
 use Rattle.runtime.specs.Run as runtime
-use Rattle.runtime.specs.Run.{filled, produce, recordBytes, written, recordsRun, runUnder, runOf}
+use Rattle.runtime.specs.Run.{filled, produce, written, recordsRun, runUnder, runOf}
 use Rattle.demands.specs.Cases.{CasesHold, Sizes}
 
 pub cases-hold : CasesHold
-unfolding field eventBytes encodeEvents encodeStimulus fieldAt some setOf largest _and-then_ values firstFrom tables.encode words named fieldAnswer entriesBelow rowAnswer inRange
+unfolding field fieldAt some setOf largest _and-then_ values firstFrom tables.encode words named fieldAnswer entriesBelow rowAnswer inRange
     countsInRange headAnswer entriesAnswer tableAnswer tableOf checkedAs checkedOf heldBy verdict stateAfter gate step lengthFits openingIn
-    openingOf recordOf ranged recordIn recordAt itemsFrom itemsOf bytesOf encodeRecords encode journal.run ticksIn movesIn recordsAnswer
-    journal.opened journalAnswer checkOf nextSet weightOf reactionTime firstLeaving reactionOf reactOf eventOf events.ranged eventIn eventAt
-    eventsFrom eventsIn filled produce recordBytes written recordsRun runtime.opened runUnder runOf
+    openingWith recordOf ranged recordIn recordAt itemsFrom itemsOf bytesOf bytesFrom encode journal.run ticksIn movesIn recordsAnswer
+    journal.opened answerIn checkOf nextSet weightOf reactionTime firstLeaving reactionOf reactOf filled produce written recordsRun runtime.opened runUnder runOf
 cases-hold = refl
 
 pub sizes : Sizes
-unfolding field tables.encode words bytesOf encodeRecords encode eventBytes encodeEvents encodeStimulus
+unfolding field tables.encode words bytesOf bytesFrom encode
 sizes = (refl, refl, refl)

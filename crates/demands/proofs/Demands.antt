@@ -15,8 +15,8 @@ use Rattle.table.specs.declared.Table.{Table}
 use Rattle.table.specs.declared.Checked.{Checked}
 use Rattle.table.specs.Table.{outputOf, holdOf, delays, WellFormed}
 use Rattle.table.specs.Check.{checkedOf}
-use Rattle.machine.specs.declared.Record.{Record}
-use Rattle.machine.specs.declared.Record.the-variants.{End}
+use Rattle.records.specs.declared.Record.{Record}
+use Rattle.records.specs.declared.Record.the-variants.{End}
 use Rattle.machine.specs.Machine.{start}
 use Rattle.journal.proofs.Answering.{table-passed}
 use Rattle.reaction.specs.declared.Answer.the-variants.{Reacts}
@@ -33,13 +33,16 @@ use Rattle.runs.proofs.OneMove.{one-move}
 use Rattle.laws.specs.Journals.{JournalOf, AcceptedRun, ticksOf, movesOf}
 use Rattle.laws.proofs.Tables.{holds-that-table}
 use Rattle.laws.proofs.Accepting.{ends-at}
-use Rattle.laws.proofs.Journals.{records-are-one, accepts-exactly, checks-exactly}
+use Rattle.laws.proofs.Journals.{accepts-exactly, checks-exactly}
+use Rattle.journal.specs.Check.{inTable}
+use Rattle.records.specs.Form as form
+use Rattle.records.proofs.Written.{records-are-one, journal-recovers}
 use Rattle.demands.specs.Demands.{AcceptedIsRun, AcceptedJournal, NotTooSoon, NotTooLate}
 
 -- ---- Acceptance
 
 -- The run of an accepted journal without its bytes and its numbers, and back.
-run-accepted : {t : Table} {s : List ℕ} {T ticks moves state output : ℕ} (a : AcceptedRun t s T ticks moves state output) →
+run-accepted : {t : Table} {s : List ℕ} {T ticks moves state output : ℕ} (a : AcceptedRun form.journal t s T ticks moves state output) →
     runs.Accepted t (a .input) (a .records ++ End T ∷ []) T
 run-accepted {t} {T = T} a = record {
   last = a .last;
@@ -48,14 +51,14 @@ run-accepted {t} {T = T} a = record {
 }
 
 accepts-run : {t : Table} {s : List ℕ} {T input : ℕ} {before : List Record} →
-    length s ≤ 65536 → JournalOf (t .states) (t .inputs) s input before T →
+    length s ≤ 65536 → JournalOf t s input before T →
     (a : runs.Accepted t input (before ++ End T ∷ []) T) →
-    AcceptedRun t s T (ticksOf before) (movesOf (t .initial) before) (a .last .state) (outputOf t (a .last .state))
+    AcceptedRun form.journal t s T (ticksOf before) (movesOf (t .initial) before) (a .last .state) (outputOf t (a .last .state))
 accepts-run {input = input} {before = before} short journal a = record {
   short = short;
   input = input;
   records = before;
-  journal = journal;
+  written = journal;
   last = a .last;
   runs = a .runs;
   ticks-are = refl;
@@ -79,7 +82,7 @@ accepted-is-run table journal table-bytes bytes T = (
           well-formed = p .1;
           table-is = p .2;
           before-end = accepts .records;
-          journal-is = accepts .journal;
+          journal-is = accepts .written;
           records-are = refl;
         };
         run = machine-is-automaton (p .0) (accepts .input) records T .0 (run-accepted accepts);
@@ -113,8 +116,8 @@ module _ {table journal : List ℕ} {t : Table} {input : ℕ} {records : List Re
       let a = j .accepted in
       let h = j .holds in
       let answer = table-passed table journal passed is-passed refl ∙ a .answer in
-      let run = accepts-exactly t journal (j .bytes) T (a .ticks) (a .moves) (a .state) (a .output) .0 answer in
-      let one = records-are-one (t .states) (t .inputs) journal _ _ _ _ T T (h .journal-is) (run .journal) in
+      let run = accepts-exactly form.journal journal-recovers t journal (j .bytes) T (a .ticks) (a .moves) (a .state) (a .output) .0 answer in
+      let one = records-are-one form.journal (inTable t) (t .inputs) journal _ _ _ _ T T (h .journal-is) (run .written) in
       rw (← one .0, ← one .1, ← h .records-are) at (run-accepted run)
 
   calculated : {P A c target : ℕ} → reactOf table P A ≡ Reacts c target → Reaction t P A c target

@@ -7,19 +7,20 @@ use Rattle.wire.specs.Choice.{_=?_, if_then_else_}
 use Rattle.table.specs.declared.Table.{Table}
 use Rattle.table.specs.Entries.{padded}
 use Rattle.table.specs.Encode as tables
-use Rattle.machine.specs.declared.Record.{Record}
-use Rattle.machine.specs.declared.Record.the-variants.{Change, Poll, Test, Tick}
+use Rattle.records.specs.declared.Record.{Record}
+use Rattle.records.specs.declared.Record.the-variants.{Change, Poll, Test, Tick}
 use Rattle.journal.specs.declared.Answer as journal
 use Rattle.journal.specs.declared.Answer.the-variants as check′
 use Rattle.journal.specs.Answer as check-answer
-use Rattle.journal.specs.Encode.{encode}
+use Rattle.records.specs.Form as form
+use Rattle.records.specs.Encode as records
+use Rattle.records.specs.Encode.{kept}
 use Rattle.journal.specs.Check.{checkOf}
 use Rattle.reaction.specs.declared.Answer as reaction
 use Rattle.reaction.specs.declared.Answer.the-variants as react′
 use Rattle.reaction.specs.Answer as react-answer
 use Rattle.reaction.specs.Reaction.{reactOf}
 use Rattle.runtime.specs.Answer as run-answer
-use Rattle.runtime.specs.Encode.{encodeStimulus, eventFor}
 use Rattle.runtime.specs.Run.{Run, journal, refused, runOf}
 
 -- ---- The classroom table and its run
@@ -53,9 +54,12 @@ runWith verdict = toPollAt7 ++ Test 8 verdict ∷ Tick 9 1 ∷ Poll 10 0 ∷ Tes
 abbrev pub tickAt : ℕ → List Record
 tickAt time = Poll 1 0 ∷ Test 1 1 ∷ Tick 2 0 ∷ Poll 3 0 ∷ Test 3 1 ∷ Tick time 0 ∷ []
 
--- The stimulus of a run's records.
+-- The journal of a run's records, and its stimulus.
+abbrev pub encode : ℕ → List Record → ℕ → List ℕ
+encode input rs end = records.encode form.journal input rs end
+
 abbrev pub stimulus : ℕ → List Record → ℕ → List ℕ
-stimulus input rs end = encodeStimulus input (map eventFor rs) end
+stimulus input rs end = records.encode form.stimulus input (map (kept form.stimulus) rs) end
 
 -- ---- What the entries reply
 

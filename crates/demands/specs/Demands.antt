@@ -10,8 +10,8 @@ use Rattle.sets.specs.Sets.{member}
 use Rattle.table.specs.declared.Table.{Table}
 use Rattle.table.specs.Table.{holdOf, delays, WellFormed}
 use Rattle.table.specs.Encode as tables
-use Rattle.machine.specs.declared.Record.{Record}
-use Rattle.machine.specs.declared.Record.the-variants.{End}
+use Rattle.records.specs.declared.Record.{Record}
+use Rattle.records.specs.declared.Record.the-variants.{End}
 use Rattle.journal.specs.declared.Answer.the-variants.{Accepted}
 use Rattle.journal.specs.Check.{checkOf}
 use Rattle.reaction.specs.declared.Answer.the-variants.{Reacts}
@@ -35,7 +35,7 @@ pub record Holds (table journal : List ℕ) (t : Table) (input : ℕ) (records :
   pub well-formed : WellFormed t
   pub table-is : table ≡ tables.encode t
   pub before-end : List Record
-  pub journal-is : JournalOf (t .states) (t .inputs) journal input before-end T
+  pub journal-is : JournalOf t journal input before-end T
   pub records-are : records ≡ before-end ++ End T ∷ []
 
 -- The journal is not too long, and its records are a run of the table's timed automaton ending at T.

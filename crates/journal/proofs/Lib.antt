@@ -1,4 +1,3 @@
-pub mod Reading
 pub mod OneMore
 pub mod Running
 pub mod Answering

@@ -1,5 +1,3 @@
-pub mod Records
 pub mod Answer
 pub mod Check
 pub mod Progress
-pub mod Encode

@@ -7,18 +7,19 @@ use native.Mathlib.Omega.{arith}
 use borrow.Author.Tests.{eq-eqb}
 use Rattle.table.specs.declared.Table.{Table}
 use Rattle.machine.specs.declared.Machine.{Machine}
-use Rattle.machine.specs.declared.Record.{Record}
-use Rattle.machine.specs.declared.Record.the-variants.{End}
+use Rattle.records.specs.declared.Record.{Record}
+use Rattle.records.specs.declared.Record.the-variants.{End}
 use Rattle.machine.specs.declared.Step.{Step}
 use Rattle.machine.specs.declared.Step.the-variants.{Next, Refused}
 use Rattle.machine.specs.Machine.{step, after}
 use Rattle.machine.specs.Run.{Runs}
 use Rattle.machine.proofs.Steps.{step-taken}
-use Rattle.journal.specs.Records.{Items, item, done, broken}
-use Rattle.journal.specs.Encode.{placed}
+use Rattle.records.specs.Form.{Form}
+use Rattle.records.specs.Reading.{sizeOf, Items, item, done, broken}
+use Rattle.records.specs.Encode.{placed, unbroken}
 use Rattle.journal.specs.Check.{ended, onwards, run, stateFrom, ticksIn, movesIn}
 use Rattle.journal.proofs.Running.{run-on}
-use Rattle.laws.specs.Journals.{unbroken, ticksOf, movesOf}
+use Rattle.laws.specs.Journals.{ticksOf, movesOf}
 
 module _ (t : Table) (m′ : Machine) where
   -- In a run that ends every record was taken.
@@ -39,28 +40,28 @@ module _ (t : Table) (m′ : Machine) where
   ended-unbroken m (broken refusal place) e = absurd (let z : _≡_ {A = ℕ} 0 1 = cc in omega arith)
 
   -- Over the items of these records the run ends in m′ exactly where the machine takes them all and is m′ after the end.
-  module _ (end : ℕ) where
-    pub run-runs : (m : Machine) (at : ℕ) (rs : List Record) → run t m (placed at rs end) ≡ ended m′ → Runs t m (rs ++ End end ∷ []) m′
+  module _ (F : Form) (end : ℕ) where
+    pub run-runs : (m : Machine) (at : ℕ) (rs : List Record) → run t m (placed F at rs end) ≡ ended m′ → Runs t m (rs ++ End end ∷ []) m′
     unfolding placed run
     run-runs m at [] e = let p = item-taken m at (End end) done e in (p .0, (cc (p .1)))
-    run-runs m at (r ∷ rs) e = let p = item-taken m at r (placed (at + 8) rs end) e in (p .0, run-runs (after t m r) (at + 8) rs (p .1))
+    run-runs m at (r ∷ rs) e = let p = item-taken m at r (placed F (at + sizeOf F r) rs end) e in (p .0, run-runs (after t m r) (at + sizeOf F r) rs (p .1))
 
-    pub runs-run : (m : Machine) (at : ℕ) (rs : List Record) → Runs t m (rs ++ End end ∷ []) m′ → run t m (placed at rs end) ≡ ended m′
+    pub runs-run : (m : Machine) (at : ℕ) (rs : List Record) → Runs t m (rs ++ End end ∷ []) m′ → run t m (placed F at rs end) ≡ ended m′
     unfolding placed run
     runs-run m at [] (taken, same) = run-on t m at (End end) done _ taken ∙ ap ended same
-    runs-run m at (r ∷ rs) (taken, more) = run-on t m at r (placed (at + 8) rs end) _ taken ∙ runs-run (after t m r) (at + 8) rs more
+    runs-run m at (r ∷ rs) (taken, more) = run-on t m at r (placed F (at + sizeOf F r) rs end) _ taken ∙ runs-run (after t m r) (at + sizeOf F r) rs more
 
-    pub ends-at : (m : Machine) (rs : List Record) → Runs t m (rs ++ End end ∷ []) m′ → end ≡ m′ .time
-    ends-at m [] (taken, same) = ap (λ x. x .time) same
-    ends-at m (r ∷ rs) (taken, more) = ends-at (after t m r) rs more
+  pub ends-at : (end : ℕ) (m : Machine) (rs : List Record) → Runs t m (rs ++ End end ∷ []) m′ → end ≡ m′ .time
+  ends-at end m [] (taken, same) = ap (λ x. x .time) same
+  ends-at end m (r ∷ rs) (taken, more) = ends-at end (after t m r) rs more
 
-module _ (end : ℕ) where
-  pub ticks-placed : (at : ℕ) (rs : List Record) → ticksIn (placed at rs end) ≡ ticksOf rs
+module _ (F : Form) (end : ℕ) where
+  pub ticks-placed : (at : ℕ) (rs : List Record) → ticksIn (placed F at rs end) ≡ ticksOf rs
   unfolding placed ticksIn ticksOf
   ticks-placed at [] = refl
-  ticks-placed at (r ∷ rs) = rw (ticks-placed (at + 8) rs)
+  ticks-placed at (r ∷ rs) = rw (ticks-placed (at + sizeOf F r) rs)
 
-  pub moves-placed : (q at : ℕ) (rs : List Record) → movesIn q (placed at rs end) ≡ movesOf q rs
+  pub moves-placed : (q at : ℕ) (rs : List Record) → movesIn q (placed F at rs end) ≡ movesOf q rs
   unfolding placed movesIn movesOf
   moves-placed q at [] = rw (eq-eqb q q refl)
-  moves-placed q at (r ∷ rs) = rw (moves-placed (stateFrom q r) (at + 8) rs)
+  moves-placed q at (r ∷ rs) = rw (moves-placed (stateFrom q r) (at + sizeOf F r) rs)

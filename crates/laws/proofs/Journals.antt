@@ -1,13 +1,13 @@
 -- The theorems about journals, as specs/Journals states them.
 use mathlib.Core.Path.{_≡_, refl, sym, ap, _∙_}
-use mathlib.Core.List.{List, [], _∷_, _++_}
+use mathlib.Core.List.{List}
 use mathlib.Core.Bool.{Bool, true, false}
-use Prim.Native.Nat.{ℕ, suc, _≤_}
+use Prim.Native.Nat.{ℕ, _≤_}
 use native.Mathlib.Omega.{arith}
 use borrow.Author.Tests.{ltb-false}
 use lib.ListN.{length}
 use Rattle.wire.specs.Choice.{_<?_, _=?_, if_then_else_}
-use Rattle.wire.specs.Encode.{Bytes, field}
+use Rattle.wire.specs.Encode.{Bytes}
 use Rattle.table.specs.declared.Table.{Table}
 use Rattle.table.specs.declared.Answer as table
 use Rattle.table.specs.declared.Answer.the-variants.{Passes}
@@ -17,75 +17,51 @@ use Rattle.table.specs.Encode as tables
 use Rattle.table.specs.Check.{tableAnswer, checkedAs, checkedOf}
 use Rattle.table.proofs.Laws.{first-passes}
 use Rattle.machine.specs.Machine.{start}
-use Rattle.journal.specs.declared.Opening.{Opening}
-use Rattle.journal.specs.declared.Opening.the-variants as opening
+use Rattle.records.specs.declared.Opening.{Opening}
+use Rattle.records.specs.declared.Opening.the-variants as opening
+use Rattle.records.specs.Form.{Form, journal}
+use Rattle.records.specs.Reading.{Items, openingOf, itemsOf}
+use Rattle.records.specs.Encode.{Recovers}
+use Rattle.records.proofs.Written.{reads-written, writes-read, journal-recovers}
 use Rattle.journal.specs.declared.Answer.{Answer}
 use Rattle.journal.specs.declared.Answer.the-variants.{Accepted, TableRefused, TooLong}
-use Rattle.journal.specs.Records.{Items, openingOf, itemsOf}
-use Rattle.journal.specs.Encode.{encode, encodeRecords}
-use Rattle.journal.specs.Check.{Outcome, ended, stopped, run, ticksIn, movesIn, accepted, recordsAnswer, opened, journalAnswer, checkOf}
-use Rattle.journal.proofs.Reading.{opening-at}
+use Rattle.journal.specs.Check.{inTable, Outcome, ended, stopped, run, ticksIn, movesIn, accepted, recordsAnswer, opened, answerIn, checkOf}
 use Rattle.journal.proofs.Answering.{opened-with, table-passed}
-use Rattle.laws.specs.Journals.{ReadsWritten, RecordsAreOne, WritesRead, AcceptedRun, AcceptsExactly, ChecksExactly, Determined}
+use Rattle.laws.specs.Journals.{AcceptedRun, AcceptsExactly, ChecksExactly, Determined}
 use Rattle.laws.proofs.Tables.{passes-exactly, holds-that-table}
-use Rattle.laws.proofs.Records.{opening-written, items-written, placed-once, opening-read, items-read}
 use Rattle.laws.proofs.Accepting.{ended-unbroken, run-runs, runs-run, ends-at, ticks-placed, moves-placed}
-
--- ---- Bytes and records, both ways
-
-pub reads-written : ReadsWritten
-unfolding itemsOf encode
-reads-written states inputs s input rs end j =
-    let o = opening-written 0x10 5 inputs s (encodeRecords rs end) input (j .opens) (j .is) in
-    (o .0, items-written states inputs s end (j .in-time) (length s) 4 rs (omega arith) (j .inner) (o .1))
-
-pub records-are-one : RecordsAreOne
-records-are-one states inputs s input input′ rs rs′ end end′ j k =
-    let p = reads-written states inputs s input rs end j in
-    let q = reads-written states inputs s input′ rs′ end′ k in
-    let same : input ≡ input′ = cc (p .0, q .0) in
-    let once = placed-once 4 rs rs′ end end′ (sym (p .1) ∙ q .1) in
-    (same, once .0, once .1)
-
-pub writes-read : WritesRead
-unfolding itemsOf encode
-writes-read states inputs s bytes input opens whole =
-    let o = opening-at 0x10 5 inputs s input opens in
-    let back = items-read states inputs s bytes (suc (length s)) 4 whole in
-    let is = opening-read 0x10 inputs s bytes input o ∙ ap (λ l. field 0x10 (input ∷ []) ++ l) (back .bytes-are) in
-    (back .records, back .end, back .is, record { opens = o .in-range; inner = back .inner; in-time = back .in-time; is = is })
 
 -- ---- Acceptance
 
-module _ (t : Table) (s : List ℕ) (end ticks moves state output : ℕ) where
+module _ (F : Form) (t : Table) (s : List ℕ) (end ticks moves state output : ℕ) where
   abbrev items : Items
-  items = itemsOf (t .states) (t .inputs) s
+  items = itemsOf F (inTable t) s
 
   abbrev numbers : Answer
   numbers = Accepted end ticks moves state output
 
   abbrev Run : Type 0
-  Run = AcceptedRun t s end ticks moves state output
+  Run = AcceptedRun F t s end ticks moves state output
 
-  pub run-accepted : Run → journalAnswer t s ≡ numbers
+  pub run-accepted : Run → answerIn F t s ≡ numbers
   unfolding recordsAnswer
   run-accepted a =
-      let r = reads-written (t .states) (t .inputs) s (a .input) (a .records) end (a .journal) in
-      let ends = runs-run t (a .last) end (start (t .initial) (a .input)) 4 (a .records) (a .runs) in
+      let r = reads-written F (inTable t) (t .inputs) s (a .input) (a .records) end (a .written) in
+      let ends = runs-run t (a .last) F end (start (t .initial) (a .input)) 4 (a .records) (a .runs) in
       let time = ends-at t (a .last) end (start (t .initial) (a .input)) (a .records) (a .runs) in
-      sym (opened-with t s (a .short) (openingOf 0x10 5 (t .inputs) s) refl (a .input) (r .0))
+      sym (opened-with F t s (a .short) (openingOf F (t .inputs) s) refl (a .input) (r .0))
       ∙ rw (r .1, ends, ticks-placed, moves-placed, a .output-is, a .state-is, a .ticks-are, a .moves-are, ← time)
 
-  module _ (bytes : Bytes s) where
-    records-accepted : (input : ℕ) → length s ≤ 65536 → openingOf 0x10 5 (t .inputs) s ≡ opening.Input input → recordsAnswer t s input ≡ numbers → Run
+  module _ (tells : Recovers F) (bytes : Bytes s) where
+    records-accepted : (input : ℕ) → length s ≤ 65536 → openingOf F (t .inputs) s ≡ opening.Input input → recordsAnswer F t s input ≡ numbers → Run
     unfolding recordsAnswer
     records-accepted input short opens e = go (run t (start (t .initial) input) items) refl e
       where
         go : (o : Outcome) → run t (start (t .initial) input) items ≡ o → accepted t items o ≡ numbers → Run
         go (stopped refusal place) is f = absurd (let z : _≡_ {A = ℕ} 0 1 = cc in omega arith)
         go (ended m) is f =
-            let w = writes-read (t .states) (t .inputs) s bytes input opens (ended-unbroken t m (start (t .initial) input) items is) in
-            let runs = run-runs t m (w .1) (start (t .initial) input) 4 (w .0) (rw (w .2) at is) in
+            let w = writes-read F tells (inTable t) (t .inputs) s bytes input opens (ended-unbroken t m (start (t .initial) input) items is) in
+            let runs = run-runs t m F (w .1) (start (t .initial) input) 4 (w .0) (rw (w .2) at is) in
             let last : m .time ≡ end = cc in
             let time : w .1 ≡ end = ends-at t m (w .1) (start (t .initial) input) (w .0) runs ∙ last in
             let counted : ticksIn items ≡ ticks = cc in
@@ -96,30 +72,30 @@ module _ (t : Table) (s : List ℕ) (end ticks moves state output : ℕ) where
               short = short;
               input = input;
               records = w .0;
-              journal = rw time at (w .3);
+              written = rw time at (w .3);
               last = m;
               runs = rw time at runs;
-              ticks-are = sym counted ∙ ap ticksIn (w .2) ∙ ticks-placed (w .1) 4 (w .0);
-              moves-are = sym moved ∙ ap (movesIn (t .initial)) (w .2) ∙ moves-placed (w .1) (t .initial) 4 (w .0);
+              ticks-are = sym counted ∙ ap ticksIn (w .2) ∙ ticks-placed F (w .1) 4 (w .0);
+              moves-are = sym moved ∙ ap (movesIn (t .initial)) (w .2) ∙ moves-placed F (w .1) (t .initial) 4 (w .0);
               state-is = state-is;
               output-is = rw state-is (sym shown);
             }
 
-    journal-accepted : journalAnswer t s ≡ numbers → Run
-    unfolding journalAnswer opened
+    journal-accepted : answerIn F t s ≡ numbers → Run
+    unfolding answerIn opened
     journal-accepted e = fits (65536 <? length s) refl e
       where
-        with-opening : length s ≤ 65536 → (o : Opening) → openingOf 0x10 5 (t .inputs) s ≡ o → opened t s o ≡ numbers → Run
+        with-opening : length s ≤ 65536 → (o : Opening) → openingOf F (t .inputs) s ≡ o → opened F t s o ≡ numbers → Run
         with-opening short (opening.Refused refusal) is f = absurd (let z : _≡_ {A = ℕ} 0 1 = cc in omega arith)
         with-opening short (opening.Input input) is f = records-accepted input short is f
 
-        fits : (b : Bool) → (65536 <? length s) ≡ b → (if b then TooLong else opened t s (openingOf 0x10 5 (t .inputs) s)) ≡ numbers → Run
+        fits : (b : Bool) → (65536 <? length s) ≡ b → (if b then TooLong else opened F t s (openingOf F (t .inputs) s)) ≡ numbers → Run
         fits true h f = absurd (let z : _≡_ {A = ℕ} 0 1 = cc in omega arith)
-        fits false h f = with-opening (ltb-false 65536 (length s) h) (openingOf 0x10 5 (t .inputs) s) refl f
+        fits false h f = with-opening (ltb-false 65536 (length s) h) (openingOf F (t .inputs) s) refl f
 
-pub accepts-exactly : AcceptsExactly
-accepts-exactly t s bytes end ticks moves state output =
-    (journal-accepted t s end ticks moves state output bytes, run-accepted t s end ticks moves state output)
+pub accepts-exactly : (F : Form) → AcceptsExactly F
+accepts-exactly F tells t s bytes end ticks moves state output =
+    (journal-accepted F t s end ticks moves state output tells bytes, run-accepted F t s end ticks moves state output)
 
 -- ---- The entry
 
@@ -128,7 +104,7 @@ unfolding _and-then_
 no-number a e = first-passes a Passes (rw e)
 
 module _ (table s : List ℕ) where
-  pub under : (t : Table) → WellFormed t → table ≡ tables.encode t → journalAnswer t s ≡ checkOf table s
+  pub under : (t : Table) → WellFormed t → table ≡ tables.encode t → answerIn journal t s ≡ checkOf table s
   under t ok is = table-passed table s (record { answer = Passes; table = t }) (sym (holds-that-table table t ok is)) refl
 
   table-passes : (end ticks moves state output : ℕ) → checkOf table s ≡ Accepted end ticks moves state output → tableAnswer table ≡ Passes
@@ -145,8 +121,8 @@ checks-exactly table s table-bytes bytes end ticks moves state output = (
   (λ e.
       let p = passes-exactly table table-bytes .0 (table-passes table s end ticks moves state output e) in
       let answer = under table s (p .0) (p .1) (p .2) ∙ e in
-      (p .0, p .1, p .2, accepts-exactly (p .0) s bytes end ticks moves state output .0 answer)),
-  (λ p. sym (under table s (p .0) (p .1) (p .2)) ∙ accepts-exactly (p .0) s bytes end ticks moves state output .1 (p .3)),
+      (p .0, p .1, p .2, accepts-exactly journal journal-recovers (p .0) s bytes end ticks moves state output .0 answer)),
+  (λ p. sym (under table s (p .0) (p .1) (p .2)) ∙ accepts-exactly journal journal-recovers (p .0) s bytes end ticks moves state output .1 (p .3)),
 )
 
 pub determined : Determined

@@ -1,10 +1,8 @@
 pub mod Rows
 pub mod Encoding
 pub mod Tables
-pub mod Timed
-pub mod Records
 pub mod Accepting
 pub mod Journals
-pub mod Stimuli
 pub mod Filling
 pub mod Runtimes
+pub mod Never28

@@ -2,7 +2,7 @@
 use mathlib.Core.Path.{_≡_, refl, sym, ap, _∙_}
 use mathlib.Core.List.{List, [], _∷_, _++_, map}
 use mathlib.Core.Bool.{Bool, true, false}
-use Prim.Native.Nat.{ℕ, suc, _≤_}
+use Prim.Native.Nat.{ℕ, _≤_}
 use native.Mathlib.Omega.{arith}
 use borrow.Author.Tests.{le-ltb, ltb-false}
 use lib.ListN.{length, take, drop}
@@ -16,72 +16,45 @@ use Rattle.table.specs.Table.{outputOf, WellFormed}
 use Rattle.table.specs.Encode as tables
 use Rattle.table.specs.Check.{tableAnswer, checkedAs, checkedOf}
 use Rattle.machine.specs.declared.Machine.{Machine}
-use Rattle.machine.specs.declared.Record.{Record}
-use Rattle.machine.specs.declared.Record.the-variants as record′
+use Rattle.records.specs.declared.Record.{Record}
+use Rattle.records.specs.declared.Record.the-variants.{End}
 use Rattle.machine.specs.Machine.{start}
 use Rattle.machine.specs.Run.{Runs}
 use Rattle.machine.proofs.Steps.{start-fits}
-use Rattle.journal.specs.declared.Opening.{Opening}
-use Rattle.journal.specs.declared.Opening.the-variants as opening
+use Rattle.records.specs.declared.Opening.{Opening}
+use Rattle.records.specs.declared.Opening.the-variants as opening
+use Rattle.records.specs.Form as form
+use Rattle.records.specs.Reading.{eventInRange, Items, openingOf, itemsOf}
+use Rattle.records.specs.Encode.{bytesFrom, encode, placed}
+use Rattle.records.proofs.Written.{reads-written, writes-read, stimulus-recovers}
 use Rattle.journal.specs.declared.Answer.the-variants as answer
-use Rattle.journal.specs.Records.{openingOf}
-use Rattle.journal.specs.Encode as journals
-use Rattle.journal.specs.Encode.{encode}
 use Rattle.journal.specs.Check as checks
-use Rattle.journal.specs.Check.{Outcome, ended, stopped, accepted, recordsAnswer, journalAnswer}
-use Rattle.journal.proofs.Reading.{opening-at}
-use Rattle.runtime.specs.declared.Event.{Event}
+use Rattle.journal.specs.Check.{Outcome, ended, stopped, accepted, inTable, recordsAnswer, answerIn}
 use Rattle.runtime.specs.declared.Answer.the-variants.{Written, TableRefused, TooLong, JournalTooLong, BufferTooShort}
-use Rattle.runtime.specs.Events.{eventsIn}
-use Rattle.runtime.specs.Encode.{encodeStimulus, encodeEvents, placed, eventFor}
 use Rattle.runtime.specs.Run as runtime
-use Rattle.runtime.specs.Run.{Produced, records, produce, recordBytes}
+use Rattle.runtime.specs.Run.{Produced, records, produce}
 use Rattle.runtime.specs.Run.{Run, journal, refused, written, recordsRun, opened, runUnder, runOf, answerOf, bufferOf}
 use Rattle.runtime.proofs.Answering.{opened-with, table-passed}
-use Rattle.laws.specs.Journals.{JournalOf, movesOf}
-use Rattle.laws.specs.Runtimes.{StimulusOf, tickEvents, JournalFor, AcceptedFor, Writable, OnlyJournal}
-use Rattle.laws.specs.Runtimes.{EventsAreOne, KeepsTheStimulus, WritesAccepted, WritesTheOnly, SucceedsExactly}
+use Rattle.laws.specs.Journals.{JournalOf, ticksOf, movesOf}
+use Rattle.laws.specs.Runtimes.{StimulusOf, eventFor, JournalFor, AcceptedFor, Writable, OnlyJournal}
+use Rattle.laws.specs.Runtimes.{KeepsTheStimulus, WritesAccepted, WritesTheOnly, SucceedsExactly}
 use Rattle.laws.specs.Runtimes.{RunsExactly, WritesTheJournal, OneOutcome}
 use Rattle.laws.proofs.Tables.{passes-exactly, holds-that-table}
-use Rattle.laws.proofs.Records.{opening-written, opening-read}
 use Rattle.laws.proofs.Accepting.{run-runs}
-use Rattle.laws.proofs.Journals.{reads-written, run-accepted, no-number, under}
-use Rattle.laws.proofs.Stimuli.{events-written, placed-once, unbroken, events-read}
-use Rattle.laws.proofs.Filling.{inner-events, ticks-kept, bytes-with-end, runs-produce, made-unbroken, produce-runs}
+use Rattle.laws.proofs.Journals.{run-accepted, no-number, under}
+use Rattle.laws.proofs.Filling.{inner-events, ticks-kept, runs-produce, made-unbroken, produce-runs}
 
--- ---- Bytes and events, both ways
+-- ---- Bytes and events
 
-stimulus-written : (inputs : ℕ) (s : List ℕ) (input : ℕ) (es : List Event) (end : ℕ) → StimulusOf inputs s input es end →
-    (openingOf 0x20 4 inputs s ≡ opening.Input input) × (eventsIn inputs s ≡ placed 4 es end)
-unfolding eventsIn encodeStimulus
-stimulus-written inputs s input es end st =
-    let o = opening-written 0x20 4 inputs s (encodeEvents es end) input (st .opens) (st .is) in
-    (o .0, events-written inputs s end (st .in-time) (length s) 4 es (omega arith) (st .inner) (o .1))
-
-stimulus-read : (inputs : ℕ) (s : List ℕ) → Bytes s → (input : ℕ) → openingOf 0x20 4 inputs s ≡ opening.Input input →
-    unbroken (eventsIn inputs s) ≡ true → (es : List Event) × (end : ℕ) × StimulusOf inputs s input es end
-unfolding eventsIn encodeStimulus
-stimulus-read inputs s bytes input opens whole =
-    let o = opening-at 0x20 4 inputs s input opens in
-    let back = events-read inputs s bytes (suc (length s)) 4 whole in
-    let is = opening-read 0x20 inputs s bytes input o ∙ ap (λ l. field 0x20 (input ∷ []) ++ l) (back .bytes-are) in
-    (back .events, back .end, record { opens = o .in-range; inner = back .inner; in-time = back .in-time; is = is })
-
-pub events-are-one : EventsAreOne
-events-are-one inputs s input input′ es es′ end end′ a b =
-    let p = stimulus-written inputs s input es end a in
-    let q = stimulus-written inputs s input′ es′ end′ b in
-    let same : input ≡ input′ = cc (p .0, q .0) in
-    let once = placed-once 4 es es′ end end′ (sym (p .1) ∙ q .1) in
-    (same, once .0, once .1)
+abbrev events : Table → List ℕ → Items
+events t s = itemsOf form.stimulus (eventInRange (t .inputs)) s
 
 -- The stimulus of a journal is one.
 stimulus-of : (t : Table) (s j : List ℕ) (input : ℕ) (rs : List Record) (end : ℕ) → JournalFor t s j input rs end →
-    StimulusOf (t .inputs) s input (map eventFor rs) end
+    StimulusOf t s input (map eventFor rs) end
 stimulus-of t s j input rs end f = record {
   opens = f .journal .opens;
-  inner = inner-events (t .states) (t .inputs) rs (f .journal .inner);
-  in-time = f .journal .in-time;
+  inner = inner-events t end 0 0 rs (f .journal .inner);
   is = f .stimulus;
 }
 
@@ -91,54 +64,54 @@ stimulus-of t s j input rs end f = record {
 record Wrote (t : Table) (s j : List ℕ) : Type 0 where
   short : length s ≤ 57344
   input : ℕ
-  opens : openingOf 0x20 4 (t .inputs) s ≡ opening.Input input
+  opens : openingOf form.stimulus (t .inputs) s ≡ opening.Input input
   made : List Record
-  produced : produce t (start (t .initial) input) (eventsIn (t .inputs) s) ≡ records made
-  is : j ≡ field 0x10 (input ∷ []) ++ recordBytes made
+  produced : produce t (start (t .initial) input) (events t s) ≡ records made
+  is : j ≡ field 0x10 (input ∷ []) ++ bytesFrom form.journal 0 made
 
 wrote : (t : Table) (s j : List ℕ) → runUnder t s ≡ journal j → Wrote t s j
 unfolding runUnder opened recordsRun written
 wrote t s j e = fits (57344 <? length s) refl e
   where
-    with-records : length s ≤ 57344 → (input : ℕ) → openingOf 0x20 4 (t .inputs) s ≡ opening.Input input → (p : Produced) →
-        produce t (start (t .initial) input) (eventsIn (t .inputs) s) ≡ p → written (field 0x10 (input ∷ [])) p ≡ journal j → Wrote t s j
+    with-records : length s ≤ 57344 → (input : ℕ) → openingOf form.stimulus (t .inputs) s ≡ opening.Input input → (p : Produced) →
+        produce t (start (t .initial) input) (events t s) ≡ p → written (field 0x10 (input ∷ [])) 0 p ≡ journal j → Wrote t s j
     with-records short input opens (runtime.stopped refusal place) is f = absurd (let z : _≡_ {A = ℕ} 0 1 = cc in omega arith)
     with-records short input opens (records made) is f = record { short = short; input = input; opens = opens; made = made; produced = is; is = cc }
 
-    with-opening : length s ≤ 57344 → (o : Opening) → openingOf 0x20 4 (t .inputs) s ≡ o → opened t s o ≡ journal j → Wrote t s j
+    with-opening : length s ≤ 57344 → (o : Opening) → openingOf form.stimulus (t .inputs) s ≡ o → opened t s o ≡ journal j → Wrote t s j
     with-opening short (opening.Refused refusal) is f = absurd (let z : _≡_ {A = ℕ} 0 1 = cc in omega arith)
     with-opening short (opening.Input input) is f = with-records short input is _ refl f
 
     fits : (b : Bool) → (57344 <? length s) ≡ b →
-        (if b then refused TooLong else opened t s (openingOf 0x20 4 (t .inputs) s)) ≡ journal j → Wrote t s j
+        (if b then refused TooLong else opened t s (openingOf form.stimulus (t .inputs) s)) ≡ journal j → Wrote t s j
     fits true h f = absurd (let z : _≡_ {A = ℕ} 0 1 = cc in omega arith)
-    fits false h f = with-opening (ltb-false 57344 (length s) h) (openingOf 0x20 4 (t .inputs) s) refl f
+    fits false h f = with-opening (ltb-false 57344 (length s) h) (openingOf form.stimulus (t .inputs) s) refl f
 
 -- The journal's records are those of a run, and their events are the stimulus's.
-record Filled (t : Table) (j : List ℕ) (input : ℕ) (es : List Event) (end : ℕ) : Type 0 where
+record Filled (t : Table) (j : List ℕ) (input : ℕ) (es : List Record) (end : ℕ) : Type 0 where
   inside : List Record
   events-are : map eventFor inside ≡ es
-  journal-is : JournalOf (t .states) (t .inputs) j input inside end
+  journal-is : JournalOf t j input inside end
   last : Machine
-  runs : Runs t (start (t .initial) input) (inside ++ record′.End end ∷ []) last
+  runs : Runs t (start (t .initial) input) (inside ++ End end ∷ []) last
 
-filled : (t : Table) → WellFormed t → (s : List ℕ) (input : ℕ) (es : List Event) (end : ℕ) → StimulusOf (t .inputs) s input es end →
+filled : (t : Table) → WellFormed t → (s : List ℕ) (input : ℕ) (es : List Record) (end : ℕ) → StimulusOf t s input es end →
     (j : List ℕ) → runUnder t s ≡ journal j → Filled t j input es end
 unfolding encode
 filled t good s input es end st j e =
     let w = wrote t s j e in
-    let r = stimulus-written (t .inputs) s input es end st in
+    let r = reads-written form.stimulus (eventInRange (t .inputs)) (t .inputs) s input es end st in
     let same : w .input ≡ input = let y = w .opens in let z = r .0 in cc in
     let produced = rw (same, r .1) at (w .produced) in
-    let m = produce-runs t good end (start (t .initial) input) (start-fits t input good (st .opens)) 4 es (st .inner) (w .made) produced in
-    let is : j ≡ encode input (m .inside) end =
+    let m = produce-runs t good end (start (t .initial) input) (start-fits t input good (st .opens)) 4 0 es (st .inner) (w .made) produced in
+    let is : j ≡ encode form.journal input (m .inside) end =
     w .is
-    ∙ ap (λ x. field 0x10 (x ∷ []) ++ recordBytes (w .made)) same
-    ∙ ap (λ l. field 0x10 (input ∷ []) ++ l) (ap recordBytes (m .is) ∙ bytes-with-end end (m .inside)) in
+    ∙ ap (λ x. field 0x10 (x ∷ []) ++ bytesFrom form.journal 0 (w .made)) same
+    ∙ ap (λ l. field 0x10 (input ∷ []) ++ bytesFrom form.journal 0 l) (m .is) in
     record {
       inside = m .inside;
       events-are = m .events-are;
-      journal-is = record { opens = st .opens; inner = m .inner; in-time = st .in-time; is = is };
+      journal-is = record { opens = st .opens; inner = m .inner 0; is = is };
       last = m .last;
       runs = m .runs;
     }
@@ -148,24 +121,24 @@ filled t good s input es end st j e =
 pub keeps-the-stimulus : KeepsTheStimulus
 keeps-the-stimulus t good s bytes j e =
     let w = wrote t s j e in
-    let whole = made-unbroken t (start (t .initial) (w .input)) (eventsIn (t .inputs) s) (w .made) (w .produced) in
-    let st = stimulus-read (t .inputs) s bytes (w .input) (w .opens) whole in
-    let f = filled t good s (w .input) (st .0) (st .1) (st .2) j e in
-    (w .input, f .inside, st .1, record { journal = f .journal-is; stimulus = rw (f .events-are) (st .2 .is) })
+    let whole = made-unbroken t (start (t .initial) (w .input)) (events t s) (w .made) (w .produced) in
+    let st = writes-read form.stimulus stimulus-recovers (eventInRange (t .inputs)) (t .inputs) s bytes (w .input) (w .opens) whole in
+    let f = filled t good s (w .input) (st .0) (st .1) (st .3) j e in
+    (w .input, f .inside, st .1, record { journal = f .journal-is; stimulus = rw (f .events-are) (st .3 .is) })
 
 pub writes-accepted : WritesAccepted
 writes-accepted t good s input es end st j e short =
     let f = filled t good s input es end st j e in
     let state = f .last .state in
-    let ticks = ap tickEvents (sym (f .events-are)) ∙ sym (ticks-kept (f .inside)) in (
+    let ticks = ap ticksOf (sym (f .events-are)) ∙ sym (ticks-kept (f .inside)) in (
       movesOf (t .initial) (f .inside),
       state,
       outputOf t state,
-      run-accepted t j end (tickEvents es) _ state _ (record {
+      run-accepted form.journal t j end (ticksOf es) _ state _ (record {
         short = short;
         input = input;
         records = f .inside;
-        journal = f .journal-is;
+        written = f .journal-is;
         last = f .last;
         runs = f .runs;
         ticks-are = ticks;
@@ -177,24 +150,24 @@ writes-accepted t good s input es end st j e short =
 
 -- ---- Any accepted journal with that stimulus
 
-accepted-runs : (t : Table) (j : List ℕ) (input : ℕ) (rs : List Record) (end : ℕ) → JournalOf (t .states) (t .inputs) j input rs end →
-    (ticks moves state output : ℕ) → journalAnswer t j ≡ answer.Accepted end ticks moves state output →
-    (last : Machine) × Runs t (start (t .initial) input) (rs ++ record′.End end ∷ []) last
-unfolding journalAnswer checks.opened recordsAnswer
+accepted-runs : (t : Table) (j : List ℕ) (input : ℕ) (rs : List Record) (end : ℕ) → JournalOf t j input rs end →
+    (ticks moves state output : ℕ) → answerIn form.journal t j ≡ answer.Accepted end ticks moves state output →
+    (last : Machine) × Runs t (start (t .initial) input) (rs ++ End end ∷ []) last
+unfolding answerIn checks.opened recordsAnswer
 accepted-runs t j input rs end is ticks moves state output e = fits (65536 <? length j) e
   where
-    ran : (o : Outcome) → checks.run t (start (t .initial) input) (journals.placed 4 rs end) ≡ o →
-        accepted t (journals.placed 4 rs end) o ≡ answer.Accepted end ticks moves state output →
-        (last : Machine) × Runs t (start (t .initial) input) (rs ++ record′.End end ∷ []) last
+    ran : (o : Outcome) → checks.run t (start (t .initial) input) (placed form.journal 4 rs end) ≡ o →
+        accepted t (placed form.journal 4 rs end) o ≡ answer.Accepted end ticks moves state output →
+        (last : Machine) × Runs t (start (t .initial) input) (rs ++ End end ∷ []) last
     ran (stopped refusal place) r f = absurd (let z : _≡_ {A = ℕ} 0 1 = cc in omega arith)
-    ran (ended m) r f = (m, run-runs t m end (start (t .initial) input) 4 rs r)
+    ran (ended m) r f = (m, run-runs t m form.journal end (start (t .initial) input) 4 rs r)
 
     fits : (b : Bool) →
-        (if b then answer.TooLong else checks.opened t j (openingOf 0x10 5 (t .inputs) j)) ≡ answer.Accepted end ticks moves state output →
-        (last : Machine) × Runs t (start (t .initial) input) (rs ++ record′.End end ∷ []) last
+        (if b then answer.TooLong else checks.opened form.journal t j (openingOf form.journal (t .inputs) j)) ≡ answer.Accepted end ticks moves state output →
+        (last : Machine) × Runs t (start (t .initial) input) (rs ++ End end ∷ []) last
     fits true f = absurd (let z : _≡_ {A = ℕ} 0 1 = cc in omega arith)
     fits false f =
-        let p = reads-written (t .states) (t .inputs) j input rs end is in
+        let p = reads-written form.journal (inTable t) (t .inputs) j input rs end is in
         ran _ refl (rw (p .0, p .1) at f)
 
 -- The runtime writes it, if the stimulus is within its limit.
@@ -202,11 +175,11 @@ writes : (t : Table) (s j : List ℕ) → length s ≤ 57344 → AcceptedFor t s
 unfolding recordsRun written encode
 writes t s j short a =
     let of = stimulus-of t s j (a .input) (a .records) (a .end) (a .for) in
-    let st = stimulus-written (t .inputs) s (a .input) (map eventFor (a .records)) (a .end) of in
+    let st = reads-written form.stimulus (eventInRange (t .inputs)) (t .inputs) s (a .input) (map eventFor (a .records)) (a .end) of in
     let r = accepted-runs t j (a .input) (a .records) (a .end) (a .for .journal) (a .ticks) (a .moves) (a .state) (a .output) (a .accepted) in
     let made = runs-produce t (r .0) (a .end) (start (t .initial) (a .input)) 4 (a .records) (r .1) in
-    sym (opened-with t s short (openingOf 0x20 4 (t .inputs) s) refl (a .input) (st .0))
-    ∙ rw (st .1, made, bytes-with-end (a .end) (a .records), ← a .for .journal .is) refl
+    sym (opened-with t s short (openingOf form.stimulus (t .inputs) s) refl (a .input) (st .0))
+    ∙ rw (st .1, made, ← a .for .journal .is) refl
 
 pub writes-the-only : WritesTheOnly
 writes-the-only t s j e j′ a =
@@ -218,16 +191,16 @@ writes-the-only t s j e j′ a =
 -- No refusal has the answer of success.
 never-refused : (t : Table) (s : List ℕ) (size : ℕ) → runUnder t s ≡ refused (Written size) → ⊥
 unfolding runUnder opened recordsRun written
-never-refused t s size e = fits (57344 <? length s) (openingOf 0x20 4 (t .inputs) s) e
+never-refused t s size e = fits (57344 <? length s) (openingOf form.stimulus (t .inputs) s) e
   where
-    with-records : (front : List ℕ) (p : Produced) → written front p ≡ refused (Written size) → ⊥
+    with-records : (front : List ℕ) (p : Produced) → written front 0 p ≡ refused (Written size) → ⊥
     with-records front (records made) f = let z : _≡_ {A = ℕ} 0 1 = cc in omega arith
     with-records front (runtime.stopped refusal place) f = let z : _≡_ {A = ℕ} 0 1 = cc in omega arith
 
     fits : (b : Bool) (o : Opening) → (if b then refused TooLong else opened t s o) ≡ refused (Written size) → ⊥
     fits true o f = let z : _≡_ {A = ℕ} 0 1 = cc in omega arith
     fits false (opening.Refused refusal) f = let z : _≡_ {A = ℕ} 0 1 = cc in omega arith
-    fits false (opening.Input input) f = with-records (field 0x10 (input ∷ [])) (produce t (start (t .initial) input) (eventsIn (t .inputs) s)) f
+    fits false (opening.Input input) f = with-records (field 0x10 (input ∷ [])) (produce t (start (t .initial) input) (events t s)) f
 
 -- A journal that is within its limit and has room.
 fitting : (j : List ℕ) (room size : ℕ) → answerOf (journal j) room ≡ Written size → (length j ≡ size) × (size ≤ room) × (size ≤ 65536)
@@ -256,7 +229,7 @@ module _ (t : Table) (good : WellFormed t) (s : List ℕ) (bytes : Bytes s) wher
         records = k .1;
         end = k .2;
         for = k .3;
-        ticks = tickEvents (map eventFor (k .1));
+        ticks = ticksOf (map eventFor (k .1));
         moves = a .0;
         state = a .1;
         output = a .2;

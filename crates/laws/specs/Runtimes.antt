@@ -1,52 +1,39 @@
 -- What holds of the runtime as a whole; proofs/Runtimes proves each.
 use mathlib.Core.Path.{_≡_}
-use mathlib.Core.List.{List, [], _∷_, map}
+use mathlib.Core.List.{List, map}
 use mathlib.Core.Logic.{_↔_}
-use Prim.Native.Nat.{ℕ, _+_, _<_, _≤_}
+use Prim.Native.Nat.{ℕ, _≤_}
 use lib.ListN.{length, take}
 use Rattle.wire.specs.Encode.{Bytes}
 use Rattle.table.specs.declared.Table.{Table}
 use Rattle.table.specs.Table.{WellFormed}
 use Rattle.table.specs.Encode as tables
-use Rattle.machine.specs.declared.Record.{Record}
-use Rattle.machine.specs.Machine.{latest}
+use Rattle.records.specs.declared.Record.{Record}
+use Rattle.records.specs.declared.Refusal.the-variants.{Differs}
 use Rattle.journal.specs.declared.Answer.the-variants.{Accepted}
-use Rattle.journal.specs.Check.{journalAnswer, checkOf}
-use Rattle.runtime.specs.declared.Event.{Event}
-use Rattle.runtime.specs.declared.Event.the-variants.{Change, Poll, Test, Tick, End}
+use Rattle.journal.specs.Check.{answerIn, checkOf}
+use Rattle.records.specs.Form as form
+use Rattle.records.specs.Reading.{eventInRange}
+use Rattle.records.specs.Encode.{encode, kept, WrittenAs}
 use Rattle.runtime.specs.declared.Answer.{Answer}
-use Rattle.runtime.specs.declared.Answer.the-variants.{Written}
-use Rattle.runtime.specs.Encode.{encodeStimulus, Inner, eventFor}
-use Rattle.runtime.specs.Run.{journal, runUnder, runOf, answerOf, bufferOf}
-use Rattle.laws.specs.Journals.{JournalOf}
+use Rattle.runtime.specs.declared.Answer.the-variants.{Written, Refused}
+use Rattle.runtime.specs.Run.{journal, refused, runUnder, runOf, answerOf, bufferOf}
+use Rattle.laws.specs.Journals.{JournalOf, ticksOf}
 
 -- ---- Stimuli
 
--- The bytes are those of an opening input, of events in range of which none is the end, and of the end.
-pub record StimulusOf (inputs : ℕ) (s : List ℕ) (input : ℕ) (es : List Event) (end : ℕ) : Type 0 where
-  pub opens : input < inputs
-  pub inner : Inner inputs es
-  pub in-time : end ≤ latest
-  pub is : s ≡ encodeStimulus input es end
+-- The bytes are a stimulus of these events, in range of the table.
+abbrev pub StimulusOf : Table → List ℕ → ℕ → List Record → ℕ → Type 0
+StimulusOf t s input es end = WrittenAs form.stimulus (eventInRange (t .inputs)) (t .inputs) s input es end
 
--- The same bytes are the stimulus of one input, one list of events and one end only.
-abbrev pub EventsAreOne : Type 0
-EventsAreOne = (inputs : ℕ) (s : List ℕ) (input input′ : ℕ) (es es′ : List Event) (end end′ : ℕ) →
-    StimulusOf inputs s input es end → StimulusOf inputs s input′ es′ end′ → (input ≡ input′) × (es ≡ es′) × (end ≡ end′)
-
--- The ticks among the events.
-unfoldable pub tickEvents : List Event → ℕ
-tickEvents [] = 0
-tickEvents (Change time input ∷ es) = tickEvents es
-tickEvents (Poll time ∷ es) = tickEvents es
-tickEvents (Test time ∷ es) = tickEvents es
-tickEvents (Tick time ∷ es) = 1 + tickEvents es
-tickEvents (End time ∷ es) = tickEvents es
+-- What a stimulus keeps of a record: all but the polled input, the verdict and the state.
+abbrev pub eventFor : Record → Record
+eventFor r = kept form.stimulus r
 
 -- The bytes j are a journal of these records, and the bytes s are its stimulus: the same opening input, changes and times, record by record.
 pub record JournalFor (t : Table) (s j : List ℕ) (input : ℕ) (rs : List Record) (end : ℕ) : Type 0 where
-  pub journal : JournalOf (t .states) (t .inputs) j input rs end
-  pub stimulus : s ≡ encodeStimulus input (map eventFor rs) end
+  pub journal : JournalOf t j input rs end
+  pub stimulus : s ≡ encode form.stimulus input (map eventFor rs) end
 
 -- ---- What the runtime writes under a table
 
@@ -57,9 +44,9 @@ KeepsTheStimulus = (t : Table) → WellFormed t → (s : List ℕ) → Bytes s �
 
 -- The journal check accepts it under the same table, with the stimulus's T and number of ticks.
 abbrev pub WritesAccepted : Type 0
-WritesAccepted = (t : Table) → WellFormed t → (s : List ℕ) (input : ℕ) (es : List Event) (end : ℕ) → StimulusOf (t .inputs) s input es end →
+WritesAccepted = (t : Table) → WellFormed t → (s : List ℕ) (input : ℕ) (es : List Record) (end : ℕ) → StimulusOf t s input es end →
     (j : List ℕ) → runUnder t s ≡ journal j → length j ≤ 65536 →
-    (moves : ℕ) × (state : ℕ) × (output : ℕ) × (journalAnswer t j ≡ Accepted end (tickEvents es) moves state output)
+    (moves : ℕ) × (state : ℕ) × (output : ℕ) × (answerIn form.journal t j ≡ Accepted end (ticksOf es) moves state output)
 
 -- The bytes j are an accepted journal, and s is its stimulus.
 pub record AcceptedFor (t : Table) (s j : List ℕ) : Type 0 where
@@ -71,7 +58,7 @@ pub record AcceptedFor (t : Table) (s j : List ℕ) : Type 0 where
   pub moves : ℕ
   pub state : ℕ
   pub output : ℕ
-  pub accepted : journalAnswer t j ≡ Accepted end ticks moves state output
+  pub accepted : answerIn form.journal t j ≡ Accepted end ticks moves state output
 
 -- There is no other accepted journal with that stimulus.
 abbrev pub WritesTheOnly : Type 0
@@ -90,6 +77,10 @@ pub record Writable (t : Table) (s : List ℕ) (room size : ℕ) : Type 0 where
 abbrev pub SucceedsExactly : Type 0
 SucceedsExactly = (t : Table) → WellFormed t → (s : List ℕ) → Bytes s → (room size : ℕ) →
     (answerOf (runUnder t s) room ≡ Written size) ↔ Writable t s room size
+
+-- It never gives 28.
+abbrev pub NeverDiffers : Type 0
+NeverDiffers = (t : Table) (s : List ℕ) (place : ℕ) → runUnder t s ≡ refused (Refused Differs place) → ⊥
 
 -- ---- The entry
 
@@ -111,7 +102,7 @@ pub record OnlyJournal (table s j : List ℕ) : Type 0 where
   pub moves : ℕ
   pub state : ℕ
   pub output : ℕ
-  pub accepted : checkOf table j ≡ Accepted end (tickEvents (map eventFor records)) moves state output
+  pub accepted : checkOf table j ≡ Accepted end (ticksOf (map eventFor records)) moves state output
   pub only : (j′ : List ℕ) → AcceptedFor under s j′ → j′ ≡ j
 
 -- On success just that stands at the start of the buffer.

@@ -1,6 +1,6 @@
 -- The two lines that document 01 gives for the classroom run and for the same run with a changed verdict.
 use mathlib.Core.Path.{_≡_, refl}
-use Rattle.machine.specs.declared.Refusal.the-variants.{Differs}
+use Rattle.records.specs.declared.Refusal.the-variants.{Differs}
 use Rattle.journal.specs.declared.Answer.the-variants.{Accepted, Refused}
 use Rattle.line.specs.Line.{text, digitsOf, acceptedLine, refusedLine, lineOf}
 

@@ -1,3 +1,4 @@
 pub mod Refusal
 pub mod Machine
 pub mod Run
+pub mod Lent

@@ -5,9 +5,10 @@ use Prim.Native.Nat.{ℕ, _+_, _-_, _<_, _≤_}
 use native.Mathlib.Omega.{arith}
 use Rattle.table.specs.declared.Table.{Table}
 use Rattle.machine.specs.declared.Machine.{Machine}
-use Rattle.machine.specs.declared.Record.{Record}
-use Rattle.machine.specs.declared.Record.the-variants.{Change, Poll, Test, Tick, End}
-use Rattle.machine.specs.Machine.{start, timeOf, after}
+use Rattle.records.specs.declared.Record.{Record}
+use Rattle.records.specs.declared.Record.the-variants.{Change, Poll, Test, Tick, End}
+use Rattle.records.specs.Record.{timeOf}
+use Rattle.machine.specs.Machine.{start, after}
 use Rattle.machine.specs.Run.{Runs}
 use Rattle.machine.proofs.Steps.{Taken, taken-step, verdict-small}
 use Rattle.runs.specs.Automaton.{later, Edge, Run, MachineIsAutomaton}

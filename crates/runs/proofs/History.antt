@@ -10,9 +10,10 @@ use Rattle.wire.proofs.Choice.{both}
 use Rattle.table.specs.declared.Table.{Table}
 use Rattle.table.specs.Table.{holdOf, delays}
 use Rattle.machine.specs.declared.Machine.{Machine}
-use Rattle.machine.specs.declared.Record.{Record}
-use Rattle.machine.specs.declared.Record.the-variants.{Change, Poll, Test, Tick, End}
-use Rattle.machine.specs.Machine.{start, timeOf, heldBy, held, verdict, after}
+use Rattle.records.specs.declared.Record.{Record}
+use Rattle.records.specs.declared.Record.the-variants.{Change, Poll, Test, Tick, End}
+use Rattle.records.specs.Record.{timeOf}
+use Rattle.machine.specs.Machine.{start, heldBy, held, verdict, after}
 use Rattle.machine.proofs.Steps.{Taken}
 use Rattle.runs.proofs.Records.{split, phases, entry-before}
 

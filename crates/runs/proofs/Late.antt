@@ -8,9 +8,10 @@ use Rattle.wire.specs.Choice.{_=?_, if_then_else_}
 use Rattle.table.specs.declared.Table.{Table}
 use Rattle.table.specs.Table.{nextOf}
 use Rattle.machine.specs.declared.Machine.{Machine}
-use Rattle.machine.specs.declared.Record.{Record}
-use Rattle.machine.specs.declared.Record.the-variants.{Change, Poll, Test, Tick, End}
-use Rattle.machine.specs.Machine.{timeOf, stateAfter, after}
+use Rattle.records.specs.declared.Record.{Record}
+use Rattle.records.specs.declared.Record.the-variants.{Change, Poll, Test, Tick, End}
+use Rattle.records.specs.Record.{timeOf}
+use Rattle.machine.specs.Machine.{stateAfter, after}
 use Rattle.machine.proofs.Steps.{Taken}
 use Rattle.runs.specs.Slots.{NotTooLate}
 use Rattle.runs.specs.Reaction.{Reach, there, via, Suffices}

@@ -11,9 +11,10 @@ use Rattle.wire.proofs.Choice.{never}
 use Rattle.table.specs.declared.Table.{Table}
 use Rattle.table.specs.Table.{nextOf}
 use Rattle.machine.specs.declared.Machine.{Machine}
-use Rattle.machine.specs.declared.Record.{Record}
-use Rattle.machine.specs.declared.Record.the-variants.{Change, Poll, Test, Tick, End}
-use Rattle.machine.specs.Machine.{timeOf, allowed, stateAfter, after}
+use Rattle.records.specs.declared.Record.{Record}
+use Rattle.records.specs.declared.Record.the-variants.{Change, Poll, Test, Tick, End}
+use Rattle.records.specs.Record.{timeOf}
+use Rattle.machine.specs.Machine.{allowed, stateAfter, after}
 use Rattle.machine.specs.Run.{Runs}
 use Rattle.machine.proofs.Laws.{from-phase-3, stays}
 use Rattle.machine.proofs.Steps.{Taken, step-taken}

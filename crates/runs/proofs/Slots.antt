@@ -7,8 +7,9 @@ use native.Mathlib.Omega.{arith}
 use borrow.Author.Tests.{le-leb, lt-leb}
 use Rattle.table.specs.declared.Table.{Table}
 use Rattle.machine.specs.declared.Machine.{Machine}
-use Rattle.machine.specs.declared.Record.{Record}
-use Rattle.machine.specs.Machine.{start, timeOf, after}
+use Rattle.records.specs.declared.Record.{Record}
+use Rattle.records.specs.Record.{timeOf}
+use Rattle.machine.specs.Machine.{start, after}
 use Rattle.machine.specs.Run.{Runs}
 use Rattle.machine.proofs.Steps.{Taken}
 use Rattle.runs.specs.Accepted.{Accepted}

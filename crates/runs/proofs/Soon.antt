@@ -9,9 +9,10 @@ use borrow.Author.Tests.{lt-ltb, le-leb, eqb-true, ne-eqb}
 use Rattle.table.specs.declared.Table.{Table}
 use Rattle.table.specs.Table.{holdOf, delays}
 use Rattle.machine.specs.declared.Machine.{Machine}
-use Rattle.machine.specs.declared.Record.{Record}
-use Rattle.machine.specs.declared.Record.the-variants.{Change, Poll, Test, Tick, End}
-use Rattle.machine.specs.Machine.{start, timeOf, heldBy, held, verdict, stateAfter, after}
+use Rattle.records.specs.declared.Record.{Record}
+use Rattle.records.specs.declared.Record.the-variants.{Change, Poll, Test, Tick, End}
+use Rattle.records.specs.Record.{timeOf}
+use Rattle.machine.specs.Machine.{start, heldBy, held, verdict, stateAfter, after}
 use Rattle.machine.proofs.Steps.{Taken}
 use Rattle.runs.specs.Slots.{Enters, NotTooSoon}
 use Rattle.runs.proofs.Records.{phases, state-kept, entry-kept}

@@ -6,9 +6,9 @@ use mathlib.Core.Bool.{true, false}
 use Prim.Native.Nat.{ℕ, _+_, _<_, _≤_}
 use Rattle.table.specs.declared.Table.{Table}
 use Rattle.table.specs.Table.{holdOf, delays, nextOf}
-use Rattle.machine.specs.declared.Record.{Record}
-use Rattle.machine.specs.declared.Record.the-variants.{Change, Poll, Test, Tick, End}
-use Rattle.machine.specs.Machine.{timeOf}
+use Rattle.records.specs.declared.Record.{Record}
+use Rattle.records.specs.declared.Record.the-variants.{Change, Poll, Test, Tick, End}
+use Rattle.records.specs.Record.{timeOf}
 use Rattle.runs.specs.Accepted.{Accepted}
 
 -- A location (i, a, b, q), which is the phase, the present input, the polled input and the state; and the clocks: x since the last

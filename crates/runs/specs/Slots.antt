@@ -8,9 +8,10 @@ use Rattle.wire.specs.Choice.{_≤?_, if_then_else_}
 use Rattle.table.specs.declared.Table.{Table}
 use Rattle.table.specs.Table.{holdOf, delays}
 use Rattle.machine.specs.declared.Machine.{Machine}
-use Rattle.machine.specs.declared.Record.{Record}
-use Rattle.machine.specs.declared.Record.the-variants.{Tick}
-use Rattle.machine.specs.Machine.{start, timeOf, after}
+use Rattle.records.specs.declared.Record.{Record}
+use Rattle.records.specs.declared.Record.the-variants.{Tick}
+use Rattle.records.specs.Record.{timeOf}
+use Rattle.machine.specs.Machine.{start, after}
 use Rattle.runs.specs.Accepted.{Accepted}
 
 -- The machine after every record with time at most k.

@@ -1,0 +1,5 @@
+pub mod Record
+pub mod Refusal
+pub mod Form
+pub mod Reading
+pub mod Encode
