@@ -2,12 +2,11 @@
 use mathlib.Core.Path.{_≡_, refl, sym}
 use mathlib.Core.Bool.{Bool, true, false}
 use mathlib.Core.Logic.{_⊎_, inl, inr}
-use Prim.Native.Nat.{ℕ}
-use native.Mathlib.Omega.{arith}
 use Rattle.wire.specs.Choice.{_and_, _or_}
+use Rattle.wire.proofs.Apart.{apart}
 
 pub never : {A : Type 0} → false ≡ true → A
-never e = absurd (let z : _≡_ {A = ℕ} 0 1 = cc in omega arith)
+never e = apart cc
 
 pub both : (a b : Bool) → (a and b) ≡ true → (a ≡ true) × (b ≡ true)
 both true b e = (refl, e)

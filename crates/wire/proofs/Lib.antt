@@ -1,3 +1,4 @@
+pub mod Apart
 pub mod Choice
 pub mod Laws
 pub mod Bytes

@@ -1,4 +1,5 @@
 pub mod Choice
+pub mod Reply
 pub mod Field
 pub mod Encode
 pub mod Standing
