@@ -4,5 +4,6 @@ pub mod Widths
 pub mod Written
 pub mod Places
 pub mod Passing
+pub mod Fields
 pub mod JournalReader
 pub mod StimulusReader

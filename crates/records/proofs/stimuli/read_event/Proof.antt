@@ -23,7 +23,7 @@ timed-event-requires : tie.Need-timed-event-requires
 timed-event-requires c κs = let low = (stands-at _ _ _ _ _ (sym (c .before .before .before .stands .ensures) ∙ c .before .before .if1 .taken)) .lowest in λ e. omega arith
 
 returns : tie.Need-returns
-returns c = λ before. c .timed-event .ensures _ ∙ stands-timed _ before _ _ (stands-at _ _ _ _ _ (sym (c .before .before .before .before .stands .ensures) ∙ c .before .before .before .if1 .taken)) _ (c .before .number32 .ensures)
+returns c = λ states before. c .timed-event .ensures _ _ ∙ stands-timed states _ before _ _ (stands-at _ _ _ _ _ (sym (c .before .before .before .before .stands .ensures) ∙ c .before .before .before .if1 .taken)) _ (c .before .number32 .ensures)
 
 read-other-requires : tie.Need-read-other-requires
 read-other-requires c κs = search needs
