@@ -1,4 +1,5 @@
-pub mod Refusal
 pub mod Machine
 pub mod Run
+pub mod Walk
+pub mod Turn
 pub mod Lent
