@@ -1,76 +1,68 @@
 -- One event more: what each way out of the code answers.
 use mathlib.Core.Path.{_≡_, refl, sym, ap, _∙_}
 use mathlib.Core.List.{List, [], _∷_}
+use mathlib.Core.Bool.{false}
 use Prim.Native.Nat.{ℕ, _+_}
-use types.Run.{OneOf, miss}
+use types.Run.{OneOf}
 use denote.Enum.Declared.{tagOf}
 use Rattle.table.specs.declared.Table.{Table}
+use Rattle.records.specs.declared.Record.{Record}
+use Rattle.records.specs.declared.Record.the-variants.{End}
+use Rattle.records.specs.declared.Refusal.{Refusal}
+use Rattle.records.specs.declared.Read.{Read}
+use Rattle.records.specs.declared.Read.the-variants as read
+use Rattle.records.specs.Record.{isEnd}
+use Rattle.records.specs.Form.{stimulus}
+use Rattle.records.specs.Reading.{inRange, recordAt, sizeOf}
+use Rattle.records.proofs.Read as ReadT
+use Rattle.records.proofs.Passing.{read-passed}
 use Rattle.machine.specs.declared.Machine.{Machine}
 use Rattle.machine.specs.declared.Step.{Step}
 use Rattle.machine.specs.declared.Step.the-variants as step
-use Rattle.records.specs.declared.Record.{Record}
-use Rattle.records.specs.declared.Record.the-variants.{Change, Poll, Test, Tick, End}
-use Rattle.records.specs.declared.Refusal.{Refusal}
-use Rattle.machine.specs.Machine.{step, verdict, stateAfter}
-use Rattle.machine.specs.Refusal as machine
-use Rattle.machine.proofs.Step as StepT
-use Rattle.records.proofs.Read as ReadT
-use Rattle.records.specs.declared.Read.{Read}
-use Rattle.records.specs.declared.Read.the-variants as read
-use Rattle.records.specs.Form.{stimulus}
-use Rattle.records.specs.Reading.{eventInRange, recordAt}
+use Rattle.machine.specs.Machine.{step}
+use Rattle.machine.specs.Walk.{inTable, filled}
+use Rattle.machine.specs.Turn.{turned, turn}
 use Rattle.runtime.specs.declared.After.{After}
 use Rattle.runtime.specs.declared.After.the-variants.{Refused}
-use Rattle.runtime.specs.Run.{filled}
-use Rattle.runtime.specs.Filling.{onwardTo, endedWith, afterEvent, afterRead}
+use Rattle.runtime.specs.Filling.{journalTag, journalValue, onwardTo, endedWith, afterTurn}
 
-pub onward-refused : (a : Step) (tag value next : ℕ) → OneOf (1 ∷ []) (tagOf StepT.the-type a) → Refused (machine.refusalOf a) ≡ onwardTo a tag value next
-onward-refused (step.Next m) tag value next h = absurd (miss (1 ∷ []) 0 tt h)
-onward-refused (step.Refused refusal) tag value next h = refl
+onward-turn : (at : ℕ) (r : Record) → isEnd r ≡ false → (a : Step) →
+    onwardTo a (journalTag r) (journalValue r) (at + sizeOf stimulus r) ≡ afterTurn at (turned r a)
+unfolding afterTurn
+onward-turn at r no-end (step.Next m) = rw no-end refl
+onward-turn at r no-end (step.Refused refusal) = refl
 
-pub ended-refused : (a : Step) → OneOf (1 ∷ []) (tagOf StepT.the-type a) → Refused (machine.refusalOf a) ≡ endedWith a
-ended-refused (step.Next m) h = absurd (miss (1 ∷ []) 0 tt h)
-ended-refused (step.Refused refusal) h = refl
+end-turn : (at time : ℕ) (a : Step) → endedWith a ≡ afterTurn at (turned (End time) a)
+unfolding afterTurn
+end-turn at time (step.Next m) = refl
+end-turn at time (step.Refused refusal) = refl
 
 module _ (t : Table) (m : Machine) (s : List ℕ) (at inputs : ℕ) (same : t .inputs ≡ inputs) (r : Read)
-    (is : (before : ℕ) → r ≡ recordAt stimulus (eventInRange inputs) before s at) where
+    (is : (states before : ℕ) → r ≡ recordAt stimulus (inRange stimulus states inputs) before s at) where
   abbrev there : Read
-  there = recordAt stimulus (eventInRange (t .inputs)) (m .time) s at
+  there = recordAt stimulus (inTable stimulus t) (m .time) s at
 
-  found : afterRead t m at r ≡ afterRead t m at there
-  found = ap (afterRead t m at) (is (m .time) ∙ ap (λ n. recordAt stimulus (eventInRange n) (m .time) s at) (sym same))
+  read-is : r ≡ there
+  read-is = is (t .states) (m .time) ∙ rw same refl
 
-  no-event : (x : Read) → OneOf (1 ∷ []) (tagOf ReadT.the-type x) → (y : Refusal) → ((z : Refusal) → x ≡ read.Refused z → y ≡ z) → Refused y ≡ afterRead t m at x
-  unfolding afterRead
-  no-event (read.Found e) h y passed = absurd (miss (1 ∷ []) 0 tt h)
-  no-event (read.Refused refusal) h y passed = ap Refused (passed refusal refl)
+  pub read-refused : (y : Refusal) → OneOf (1 ∷ []) (tagOf ReadT.the-type r) → ((x : Refusal) → r ≡ read.Refused x → y ≡ x) →
+      Refused y ≡ afterTurn at (turn stimulus t m there)
+  unfolding turn afterTurn
+  read-refused y h passed =
+      read-passed Refused y (λ x. afterTurn at (turn stimulus t m x)) (λ x. refl) r h passed ∙ ap (λ x. afterTurn at (turn stimulus t m x)) read-is
 
-  pub read-refused : OneOf (1 ∷ []) (tagOf ReadT.the-type r) → (y : Refusal) → ((z : Refusal) → r ≡ read.Refused z → y ≡ z) → Refused y ≡ afterRead t m at there
-  read-refused h y passed = no-event r h y passed ∙ found
+  -- The event, and the record that the machine makes of it.
+  module _ (e kind own : Record) (found : r ≡ read.Found e) (of-kind : e ≡ kind) (fills : own ≡ filled t m kind) (a : Step) (stepped : a ≡ step t m own) where
+    turn-is : turned own a ≡ turn stimulus t m there
+    unfolding turn
+    turn-is =
+        ap (turned own) stepped
+        ∙ ap (λ x. turned x (step t m x)) (fills ∙ ap (filled t m) (sym of-kind))
+        ∙ ap (turn stimulus t m) (sym found ∙ read-is)
 
-  pub came : (e kind : Record) → r ≡ read.Found e → e ≡ kind → (x : After) → x ≡ afterEvent t m at kind → x ≡ afterRead t m at there
-  unfolding afterRead
-  came e kind p k x h = h ∙ ap (λ y. afterRead t m at (read.Found y)) (sym k) ∙ ap (afterRead t m at) (sym p) ∙ found
+    pub went-on : isEnd own ≡ false → (x : After) → x ≡ onwardTo a (journalTag own) (journalValue own) (at + sizeOf stimulus own) →
+        x ≡ afterTurn at (turn stimulus t m there)
+    went-on no-end x h = h ∙ onward-turn at own no-end a ∙ ap (afterTurn at) turn-is
 
--- ---- By the kind of event
-
-module _ (t : Table) (m : Machine) (at time : ℕ) (a : Step) (x : After) where
-  pub by-change : (input : ℕ) → a ≡ step t m (Change time input) → x ≡ onwardTo a 0x11 input (at + 8) → x ≡ afterEvent t m at (Change time input)
-  unfolding afterEvent filled
-  by-change input e h = h ∙ ap (λ y. onwardTo y 0x11 input (at + 8)) e
-
-  pub by-poll : (blank : ℕ) → a ≡ step t m (Poll time (m .input)) → x ≡ onwardTo a 0x12 (m .input) (at + 7) → x ≡ afterEvent t m at (Poll time blank)
-  unfolding afterEvent filled
-  by-poll blank e h = h ∙ ap (λ y. onwardTo y 0x12 (m .input) (at + 7)) e
-
-  pub by-test : (blank v : ℕ) → v ≡ verdict t m time → a ≡ step t m (Test time v) → x ≡ onwardTo a 0x13 v (at + 7) → x ≡ afterEvent t m at (Test time blank)
-  unfolding afterEvent filled
-  by-test blank v is e h = h ∙ ap (λ y. onwardTo y 0x13 v (at + 7)) e ∙ ap (λ w. onwardTo (step t m (Test time w)) 0x13 w (at + 7)) is
-
-  pub by-tick : (blank q : ℕ) → q ≡ stateAfter t m → a ≡ step t m (Tick time q) → x ≡ onwardTo a 0x14 q (at + 7) → x ≡ afterEvent t m at (Tick time blank)
-  unfolding afterEvent filled
-  by-tick blank q is e h = h ∙ ap (λ y. onwardTo y 0x14 q (at + 7)) e ∙ ap (λ p. onwardTo (step t m (Tick time p)) 0x14 p (at + 7)) is
-
-  pub by-end : a ≡ step t m (End time) → x ≡ endedWith a → x ≡ afterEvent t m at (End time)
-  unfolding afterEvent filled
-  by-end e h = h ∙ ap endedWith e
+    pub ended : (time : ℕ) → own ≡ End time → (x : After) → x ≡ endedWith a → x ≡ afterTurn at (turn stimulus t m there)
+    ended time end x h = h ∙ end-turn at time a ∙ ap (λ k. afterTurn at (turned k a)) (sym end) ∙ ap (afterTurn at) turn-is
