@@ -1,101 +1,124 @@
 -- The theorems about journals, as specs/Journals states them.
 use mathlib.Core.Path.{_≡_, refl, sym, ap, _∙_}
-use mathlib.Core.List.{List}
-use mathlib.Core.Bool.{Bool, true, false}
-use Prim.Native.Nat.{ℕ, _≤_}
+use mathlib.Core.List.{List, [], _∷_, _++_, map}
+use mathlib.Core.Bool.{true}
+use Prim.Native.Nat.{ℕ, _+_}
 use native.Mathlib.Omega.{arith}
-use borrow.Author.Tests.{ltb-false}
-use lib.ListN.{length}
-use Rattle.wire.specs.Choice.{_<?_, _=?_, if_then_else_}
+use borrow.Author.Tests.{eq-eqb}
+use Rattle.wire.specs.Choice.{_=?_, if_then_else_}
 use Rattle.wire.specs.Encode.{Bytes}
+use Rattle.wire.proofs.Apart.{apart}
 use Rattle.table.specs.declared.Table.{Table}
-use Rattle.table.specs.declared.Answer as table
 use Rattle.table.specs.declared.Answer.the-variants.{Passes}
-use Rattle.table.specs.Answer.{numberOf, _and-then_}
 use Rattle.table.specs.Table.{outputOf, WellFormed}
 use Rattle.table.specs.Encode as tables
-use Rattle.table.specs.Check.{tableAnswer, checkedAs, checkedOf}
-use Rattle.table.proofs.Laws.{first-passes}
-use Rattle.machine.specs.Machine.{start}
-use Rattle.records.specs.declared.Opening.{Opening}
-use Rattle.records.specs.declared.Opening.the-variants as opening
+use Rattle.table.specs.Check.{tableAnswer}
+use Rattle.records.specs.declared.Record.{Record}
+use Rattle.records.specs.declared.Record.the-variants.{Change, Poll, Test, Tick, End}
 use Rattle.records.specs.Form.{Form, journal}
-use Rattle.records.specs.Reading.{Items, openingOf, itemsOf}
-use Rattle.records.specs.Encode.{Recovers}
-use Rattle.records.proofs.Written.{reads-written, writes-read, journal-recovers}
+use Rattle.records.specs.Encode.{kept, Recovers}
+use Rattle.records.proofs.Written.{journal-recovers}
+use Rattle.machine.specs.declared.Machine.{Machine}
+use Rattle.machine.specs.Machine.{start, after}
+use Rattle.machine.specs.Run.{Runs, ticksOf, stateFrom, movesOf}
+use Rattle.machine.specs.Walk.{Run, ran, tooLong, refused, runOver}
+use Rattle.machine.proofs.Counts.{ticks-more}
 use Rattle.journal.specs.declared.Answer.{Answer}
-use Rattle.journal.specs.declared.Answer.the-variants.{Accepted, TableRefused, TooLong}
-use Rattle.journal.specs.Check.{inTable, Outcome, ended, stopped, run, ticksIn, movesIn, accepted, recordsAnswer, opened, answerIn, checkOf}
-use Rattle.journal.proofs.Answering.{opened-with, table-passed}
-use Rattle.laws.specs.Journals.{AcceptedRun, AcceptsExactly, ChecksExactly, Determined}
+use Rattle.journal.specs.declared.Answer.the-variants.{Accepted, TableRefused}
+use Rattle.journal.specs.Check.{answerOf, answerIn, checkOf}
+use Rattle.laws.specs.Walks.{RunsOver}
+use Rattle.laws.specs.Journals.{AcceptedRun, AcceptsExactly, ChecksExactly}
 use Rattle.laws.proofs.Tables.{passes-exactly, holds-that-table}
-use Rattle.laws.proofs.Accepting.{ended-unbroken, run-runs, runs-run, ends-at, ticks-placed, moves-placed}
+use Rattle.laws.proofs.Walks.{over-runs, runs-over}
 
 -- ---- Acceptance
 
-module _ (F : Form) (t : Table) (s : List ℕ) (end ticks moves state output : ℕ) where
-  abbrev items : Items
-  items = itemsOf F (inTable t) s
+pub ends-at : (t : Table) (end : ℕ) (m last : Machine) (rs : List Record) → Runs t m (rs ++ End end ∷ []) last → end ≡ last .time
+ends-at t end m last [] (taken, same) = ap (λ x. x .time) same
+ends-at t end m last (r ∷ rs) (taken, more) = ends-at t end (after t m r) last rs more
 
+-- The end is no tick and no move.
+ticks-end : (rs : List Record) (end : ℕ) → ticksOf (rs ++ End end ∷ []) ≡ ticksOf rs
+ticks-end rs end = ticks-more rs (End end) ∙ omega arith
+
+moves-end : (q : ℕ) (rs : List Record) (end : ℕ) → movesOf q (rs ++ End end ∷ []) ≡ movesOf q rs
+unfolding movesOf
+moves-end q [] end = rw (eq-eqb q q refl) refl
+moves-end q (r ∷ rs) end = rw (moves-end (stateFrom q r) rs end) refl
+
+-- A form that says every value keeps all of a record.
+module _ (F : Form) (valued : F .valued ≡ true) where
+  pub all-kept : (r : Record) → kept F r ≡ r
+  all-kept (Change time input) = refl
+  all-kept (Poll time input) = rw valued refl
+  all-kept (Test time verdict) = rw valued refl
+  all-kept (Tick time state) = rw valued refl
+  all-kept (End time) = refl
+
+  pub keeps-all : (rs : List Record) → map (kept F) rs ≡ rs
+  keeps-all [] = refl
+  keeps-all (r ∷ rs) = rw (all-kept r, keeps-all rs) refl
+
+module _ (F : Form) (valued : F .valued ≡ true) (t : Table) (s : List ℕ) (end ticks moves state output : ℕ) where
   abbrev numbers : Answer
   numbers = Accepted end ticks moves state output
 
-  abbrev Run : Type 0
-  Run = AcceptedRun F t s end ticks moves state output
+  abbrev AsRun : Type 0
+  AsRun = AcceptedRun F t s end ticks moves state output
 
-  pub run-accepted : Run → answerIn F t s ≡ numbers
-  unfolding recordsAnswer
+  pub run-accepted : AsRun → answerIn F t s ≡ numbers
+  unfolding answerOf
   run-accepted a =
-      let r = reads-written F (inTable t) (t .inputs) s (a .input) (a .records) end (a .written) in
-      let ends = runs-run t (a .last) F end (start (t .initial) (a .input)) 4 (a .records) (a .runs) in
-      let time = ends-at t (a .last) end (start (t .initial) (a .input)) (a .records) (a .runs) in
-      sym (opened-with F t s (a .short) (openingOf F (t .inputs) s) refl (a .input) (r .0))
-      ∙ rw (r .1, ends, ticks-placed, moves-placed, a .output-is, a .state-is, a .ticks-are, a .moves-are, ← time)
+      let taken = a .records ++ End end ∷ [] in
+      let over : RunsOver F t s (a .input) taken (a .last) = record { short = a .short; said = a .records; end = end; written = a .written; says = keeps-all F valued taken; runs = a .runs } in
+      let time = ends-at t end (start (t .initial) (a .input)) (a .last) (a .records) (a .runs) in
+      rw (
+        runs-over F t s (a .input) taken (a .last) over,
+        ticks-end,
+        moves-end,
+        a .output-is,
+        a .state-is,
+        a .ticks-are,
+        a .moves-are,
+        ← time,
+      )
 
-  module _ (tells : Recovers F) (bytes : Bytes s) where
-    records-accepted : (input : ℕ) → length s ≤ 65536 → openingOf F (t .inputs) s ≡ opening.Input input → recordsAnswer F t s input ≡ numbers → Run
-    unfolding recordsAnswer
-    records-accepted input short opens e = go (run t (start (t .initial) input) items) refl e
-      where
-        go : (o : Outcome) → run t (start (t .initial) input) items ≡ o → accepted t items o ≡ numbers → Run
-        go (stopped refusal place) is f = absurd (let z : _≡_ {A = ℕ} 0 1 = cc in omega arith)
-        go (ended m) is f =
-            let w = writes-read F tells (inTable t) (t .inputs) s bytes input opens (ended-unbroken t m (start (t .initial) input) items is) in
-            let runs = run-runs t m F (w .1) (start (t .initial) input) 4 (w .0) (rw (w .2) at is) in
-            let last : m .time ≡ end = cc in
-            let time : w .1 ≡ end = ends-at t m (w .1) (start (t .initial) input) (w .0) runs ∙ last in
-            let counted : ticksIn items ≡ ticks = cc in
-            let moved : movesIn (t .initial) items ≡ moves = cc in
-            let shown : outputOf t (m .state) ≡ output = cc in
-            let state-is : state ≡ m .state = cc in
-            record {
-              short = short;
-              input = input;
-              records = w .0;
-              written = rw time at (w .3);
-              last = m;
-              runs = rw time at runs;
-              ticks-are = sym counted ∙ ap ticksIn (w .2) ∙ ticks-placed F (w .1) 4 (w .0);
-              moves-are = sym moved ∙ ap (movesIn (t .initial)) (w .2) ∙ moves-placed F (w .1) (t .initial) 4 (w .0);
-              state-is = state-is;
-              output-is = rw state-is (sym shown);
-            }
+  through : (input : ℕ) (taken : List Record) (last : Machine) → RunsOver F t s input taken last →
+      Accepted (last .time) (ticksOf taken) (movesOf (t .initial) taken) (last .state) (outputOf t (last .state)) ≡ numbers → AsRun
+  through input taken last h e =
+      let all : taken ≡ h .said ++ End (h .end) ∷ [] = sym (keeps-all F valued taken) ∙ h .says in
+      let runs = rw all at (h .runs) in
+      let time-is : last .time ≡ end = cc in
+      let same : h .end ≡ end = ends-at t (h .end) (start (t .initial) input) last (h .said) runs ∙ time-is in
+      let counted : ticksOf taken ≡ ticks = cc in
+      let moved : movesOf (t .initial) taken ≡ moves = cc in
+      let state-is : last .state ≡ state = cc in
+      let shown : outputOf t (last .state) ≡ output = cc in
+      record {
+        short = h .short;
+        input = input;
+        records = h .said;
+        written = rw same at (h .written);
+        last = last;
+        runs = rw same at runs;
+        ticks-are = sym counted ∙ ap ticksOf all ∙ ticks-end (h .said) (h .end);
+        moves-are = sym moved ∙ ap (movesOf (t .initial)) all ∙ moves-end (t .initial) (h .said) (h .end);
+        state-is = sym state-is;
+        output-is = rw (← state-is) (sym shown);
+      }
 
-    journal-accepted : answerIn F t s ≡ numbers → Run
-    unfolding answerIn opened
-    journal-accepted e = fits (65536 <? length s) refl e
-      where
-        with-opening : length s ≤ 65536 → (o : Opening) → openingOf F (t .inputs) s ≡ o → opened F t s o ≡ numbers → Run
-        with-opening short (opening.Refused refusal) is f = absurd (let z : _≡_ {A = ℕ} 0 1 = cc in omega arith)
-        with-opening short (opening.Input input) is f = records-accepted input short is f
-
-        fits : (b : Bool) → (65536 <? length s) ≡ b → (if b then TooLong else opened F t s (openingOf F (t .inputs) s)) ≡ numbers → Run
-        fits true h f = absurd (let z : _≡_ {A = ℕ} 0 1 = cc in omega arith)
-        fits false h f = with-opening (ltb-false 65536 (length s) h) (openingOf F (t .inputs) s) refl f
+  accepted-run : Recovers F → Bytes s → answerIn F t s ≡ numbers → AsRun
+  unfolding answerOf
+  accepted-run tells bytes e = go (runOver F t s) refl e
+    where
+      go : (r : Run) → runOver F t s ≡ r → answerOf t r ≡ numbers → AsRun
+      go (ran input taken last) is f = through input taken last (over-runs F t s input taken last tells bytes is) f
+      go tooLong is f = apart cc
+      go (refused refusal place) is f = apart cc
 
 pub accepts-exactly : (F : Form) → AcceptsExactly F
-accepts-exactly F tells t s bytes end ticks moves state output =
-    (journal-accepted F t s end ticks moves state output tells bytes, run-accepted F t s end ticks moves state output)
+accepts-exactly F valued tells t s bytes end ticks moves state output =
+    (accepted-run F valued t s end ticks moves state output tells bytes, run-accepted F valued t s end ticks moves state output)
 
 -- ---- The entry
 

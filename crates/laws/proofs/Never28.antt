@@ -1,33 +1,34 @@
--- The runtime never gives 28: what it turns down is the reader's, or a record that the machine itself filled in.
+-- The runtime never gives 28: what it turns down is the reader's, or a record that the machine itself completed.
 use mathlib.Core.Path.{_≡_, refl}
-use mathlib.Core.List.{List, [], _∷_}
+use mathlib.Core.List.{List}
 use mathlib.Core.Bool.{Bool, true, false, not}
-use Prim.Native.Nat.{ℕ, suc, _+_, _*_, _<_, _≤_}
+use Prim.Native.Nat.{ℕ, suc, _+_, _*_, _≤_}
 use native.Mathlib.Omega.{arith}
 use borrow.Author.Tests.{eq-eqb}
 use lib.ListN.{length}
 use Rattle.wire.specs.Choice.{_<?_, if_then_else_}
-use Rattle.wire.specs.Encode.{field}
+use Rattle.wire.proofs.Apart.{apart}
 use Rattle.table.specs.declared.Table.{Table}
-use Rattle.machine.specs.declared.Machine.{Machine}
 use Rattle.records.specs.declared.Record.{Record}
 use Rattle.records.specs.declared.Record.the-variants.{Change, Poll, Test, Tick, End}
 use Rattle.records.specs.declared.Refusal.{Refusal}
 use Rattle.records.specs.declared.Refusal.the-variants.{TimeFalls, PastBound, WrongPhase, Unsettled, Differs}
+use Rattle.records.specs.declared.Opening.{Opening}
+use Rattle.records.specs.declared.Opening.the-variants as opening
+use Rattle.records.specs.Record.{timeOf}
+use Rattle.records.specs.Refusal.{numberOf}
+use Rattle.records.specs.Form.{stimulus}
+use Rattle.records.specs.Reading.{Items, item, done, broken, openingOf, itemsOf}
+use Rattle.records.proofs.Places.{OpensWell, opens-well, Within, items-within}
+use Rattle.machine.specs.declared.Machine.{Machine}
 use Rattle.machine.specs.declared.Gate.the-variants.{Open, Shut}
 use Rattle.machine.specs.declared.Step.{Step}
 use Rattle.machine.specs.declared.Step.the-variants as step
-use Rattle.records.specs.Refusal.{numberOf}
-use Rattle.records.specs.Record.{timeOf, kindOf}
-use Rattle.machine.specs.Machine.{allowed, settled, verdict, stateAfter, agrees, after, gate, through, step, start}
-use Rattle.records.specs.declared.Opening.{Opening}
-use Rattle.records.specs.declared.Opening.the-variants as opening
-use Rattle.records.specs.Form.{stimulus}
-use Rattle.records.specs.Reading.{eventInRange, Items, item, done, broken, openingWith, itemsOf}
-use Rattle.records.proofs.Places.{OpensWell, opens-well, Within, items-within}
-use Rattle.runtime.specs.declared.Answer.the-variants.{TooLong, Refused}
+use Rattle.machine.specs.Machine.{kindOf, allowed, settled, verdict, stateAfter, agrees, after, gate, through, step, start}
+use Rattle.machine.specs.Walk.{inTable, filled, Walk, ended, stopped, took, onwards, walk, Run, ran, tooLong, refused, ranFrom, recordsRun, opened, runOver}
+use Rattle.runtime.specs.declared.Answer.the-variants.{Refused}
 use Rattle.runtime.specs.Run as runtime
-use Rattle.runtime.specs.Run.{filled, Produced, records, stopped, produce, Run, journal, refused, written, recordsRun, opened, runUnder}
+use Rattle.runtime.specs.Run.{madeOf}
 use Rattle.laws.specs.Runtimes.{NeverDiffers}
 
 -- ---- The machine, on a record that agrees with it
@@ -38,19 +39,19 @@ Agrees (step.Refused refusal) = numberOf refusal ≤ 27
 
 agreed : (t : Table) (m : Machine) (r : Record) → agrees t m r ≡ true → Agrees (step t m r)
 unfolding step gate
-agreed t m r e = go (timeOf r <? m .time) (m .start + t .bound <? timeOf r) (allowed (m .phase) (kindOf r)) (settled m r)
+agreed t m r e = go (timeOf r <? m .time) (m .start + t .bound <? timeOf r) (allowed (m .phase) (kindOf r))
   where
     last : (d : Bool) → Agrees (if not d then step.Refused Unsettled else if not (agrees t m r) then step.Refused Differs else step.Next (after t m r))
     last true = rw e tt
     last false = omega arith
 
-    go : (a b c d : Bool) → Agrees (through (if a then Shut TimeFalls else if b then Shut PastBound else if not c then Shut WrongPhase else Open) t m r)
-    go true b c d = omega arith
-    go false true c d = omega arith
-    go false false false d = omega arith
-    go false false true d = last (settled m r)
+    go : (a b c : Bool) → Agrees (through (if a then Shut TimeFalls else if b then Shut PastBound else if not c then Shut WrongPhase else Open) t m r)
+    go true b c = omega arith
+    go false true c = omega arith
+    go false false false = omega arith
+    go false false true = last (settled m r)
 
-filled-agrees : (t : Table) (m : Machine) (e : Record) → agrees t m (filled t m e) ≡ true
+filled-agrees : (t : Table) (m : Machine) (r : Record) → agrees t m (filled t m r) ≡ true
 unfolding filled
 filled-agrees t m (Change time input) = refl
 filled-agrees t m (Poll time blank) = eq-eqb (m .input) (m .input) refl
@@ -58,53 +59,57 @@ filled-agrees t m (Test time blank) = eq-eqb (verdict t m time) (verdict t m tim
 filled-agrees t m (Tick time blank) = eq-eqb (stateAfter t m) (stateAfter t m) refl
 filled-agrees t m (End time) = refl
 
--- ---- The runtime
+-- ---- The walk over a stimulus
 
-abbrev Fine : Produced → Type 0
-Fine (records rs) = Unit
+abbrev Fine : Walk → Type 0
+Fine (ended taken last) = Unit
 Fine (stopped refusal place) = numberOf refusal ≤ 27
 
-fine-after : (r : Record) (p : Produced) → Fine p → Fine (runtime.after r p)
-fine-after r (records rs) h = tt
-fine-after r (stopped refusal place) h = h
+took-fine : (r : Record) (w : Walk) → Fine w → Fine (took r w)
+took-fine r (ended taken last) h = tt
+took-fine r (stopped refusal place) h = h
 
-produce-fine : (limit : ℕ) (t : Table) (m : Machine) (items : Items) → Within limit items → Fine (produce t m items)
-unfolding produce
-produce-fine limit t m (item place e rest) (low, more) =
-    taken (step t m (filled t m e)) (agreed t m (filled t m e) (filled-agrees t m e)) (λ m′. produce-fine limit t m′ rest more)
+walk-fine : (limit : ℕ) (t : Table) (m : Machine) (items : Items) → Within limit items → Fine (walk stimulus t m items)
+unfolding walk
+walk-fine limit t m (item place e rest) (low, more) =
+    taken (step t m (filled t m e)) (agreed t m (filled t m e) (filled-agrees t m e)) (λ m′. walk-fine limit t m′ rest more)
   where
-    taken : (a : Step) → Agrees a → ((m′ : Machine) → Fine (produce t m′ rest)) → Fine (runtime.onwards a place (filled t m e) (λ m′. produce t m′ rest))
-    taken (step.Next m′) h later = fine-after (filled t m e) (produce t m′ rest) (later m′)
+    taken : (a : Step) → Agrees a → ((m′ : Machine) → Fine (walk stimulus t m′ rest)) → Fine (onwards a place (filled t m e) (λ m′. walk stimulus t m′ rest))
+    taken (step.Next m′) h later = took-fine (filled t m e) (walk stimulus t m′ rest) (later m′)
     taken (step.Refused refusal) h later = h
-produce-fine limit t m done w = tt
-produce-fine limit t m (broken refusal place) w = omega (arith, w .0)
+walk-fine limit t m done w = tt
+walk-fine limit t m (broken refusal place) w = omega (arith, w .0)
 
 abbrev FineRun : Run → Type 0
-FineRun (journal bytes) = Unit
-FineRun (refused answer) = (refusal : Refusal) (place : ℕ) → answer ≡ Refused refusal place → numberOf refusal ≤ 27
+FineRun (ran input taken last) = Unit
+FineRun tooLong = Unit
+FineRun (refused refusal place) = numberOf refusal ≤ 27
 
-same-refusal : (x : Refusal) (p : ℕ) → numberOf x ≤ 27 → (refusal : Refusal) (place : ℕ) → Refused x p ≡ Refused refusal place → numberOf refusal ≤ 27
-same-refusal x p h refusal place e = let y : refusal ≡ x = cc in rw y h
-
-never-28 : (t : Table) (s : List ℕ) → FineRun (runUnder t s)
-unfolding runUnder opened recordsRun itemsOf written
-never-28 t s = go (57344 <? length s)
+run-fine : (t : Table) (s : List ℕ) → FineRun (runOver stimulus t s)
+unfolding runOver opened recordsRun itemsOf
+run-fine t s = go (stimulus .most <? length s)
   where
-    made : (front : List ℕ) (p : Produced) → Fine p → FineRun (written front 0 p)
-    made front (records rs) h = tt
-    made front (stopped refusal place) h = same-refusal refusal place h
+    walked : (input : ℕ) (w : Walk) → Fine w → FineRun (ranFrom input w)
+    walked input (ended taken last) h = tt
+    walked input (stopped refusal place) h = h
 
-    begun : (o : Opening) → OpensWell o → FineRun (opened t s o)
-    begun (opening.Refused refusal) h = same-refusal refusal 0 (omega arith)
+    begun : (o : Opening) → OpensWell o → FineRun (opened stimulus t s o)
+    begun (opening.Refused refusal) h = omega arith
     begun (opening.Input input) h =
-        let items = itemsOf stimulus (eventInRange (t .inputs)) s in
         let limit = 4 + 8 * suc (length s) in
-        made (field 0x10 (input ∷ [])) (produce t (start (t .initial) input) items)
-        (produce-fine limit t (start (t .initial) input) items (items-within stimulus (eventInRange (t .inputs)) s limit (suc (length s)) 4 0 (omega arith)))
+        let within = items-within stimulus (inTable stimulus t) s limit (suc (length s)) 4 0 (omega arith) in
+        let items = itemsOf stimulus (inTable stimulus t) s in
+        walked input (walk stimulus t (start (t .initial) input) items) (walk-fine limit t (start (t .initial) input) items within)
 
-    go : (b : Bool) → FineRun (if b then refused TooLong else opened t s (openingWith 0x20 4 4 (t .inputs) s))
-    go true = λ refusal place e. absurd (let z : _≡_ {A = ℕ} 0 1 = cc in omega arith)
-    go false = begun (openingWith 0x20 4 4 (t .inputs) s) (opens-well 0x20 4 4 (t .inputs) s)
+    go : (b : Bool) → FineRun (if b then tooLong else opened stimulus t s (openingOf stimulus (t .inputs) s))
+    go true = tt
+    go false = begun (openingOf stimulus (t .inputs) s) (opens-well 0x20 4 4 (t .inputs) s)
 
 pub never-differs : NeverDiffers
-never-differs t s place e = let low : 28 ≤ 27 = (rw e at (never-28 t s)) Differs place refl in omega arith
+unfolding madeOf
+never-differs t s place e = go (runOver stimulus t s) (run-fine t s) e
+  where
+    go : (r : Run) → FineRun r → madeOf r ≡ runtime.refused (Refused Differs place) → ⊥
+    go (ran input taken last) h f = apart cc
+    go tooLong h f = apart cc
+    go (refused refusal p) h f = let same : refusal ≡ Differs = cc in let low : 28 ≤ 27 = rw same at h in omega arith

@@ -4,50 +4,136 @@ use mathlib.Core.List.{List, [], _∷_, _++_, map}
 use mathlib.Core.Bool.{Bool, true, false}
 use Prim.Native.Nat.{ℕ, _≤_}
 use native.Mathlib.Omega.{arith}
-use borrow.Author.Tests.{le-ltb, ltb-false}
+use borrow.Author.Tests.{le-ltb, ltb-false, leb-true}
 use lib.ListN.{length, take, drop}
 use lib.Seq.{take-append-seam}
-use Rattle.wire.specs.Choice.{_<?_, _=?_, if_then_else_}
+use Rattle.wire.specs.Choice.{_<?_, _≤?_, _and_, if_then_else_}
 use Rattle.wire.specs.Encode.{Bytes, field}
+use Rattle.wire.proofs.Apart.{apart}
+use Rattle.wire.proofs.Choice.{both}
 use Rattle.table.specs.declared.Table.{Table}
 use Rattle.table.specs.declared.Answer.the-variants.{Passes}
-use Rattle.table.specs.Answer.{numberOf}
 use Rattle.table.specs.Table.{outputOf, WellFormed}
 use Rattle.table.specs.Encode as tables
-use Rattle.table.specs.Check.{tableAnswer, checkedAs, checkedOf}
-use Rattle.machine.specs.declared.Machine.{Machine}
+use Rattle.table.specs.Check.{tableAnswer}
 use Rattle.records.specs.declared.Record.{Record}
-use Rattle.records.specs.declared.Record.the-variants.{End}
-use Rattle.machine.specs.Machine.{start}
-use Rattle.machine.specs.Run.{Runs}
-use Rattle.machine.proofs.Steps.{start-fits}
-use Rattle.records.specs.declared.Opening.{Opening}
-use Rattle.records.specs.declared.Opening.the-variants as opening
+use Rattle.records.specs.declared.Record.the-variants.{Change, Poll, Test, Tick, End}
+use Rattle.records.specs.Record.{timeOf, isEnd, latest}
 use Rattle.records.specs.Form as form
-use Rattle.records.specs.Reading.{eventInRange, Items, openingOf, itemsOf}
-use Rattle.records.specs.Encode.{bytesFrom, encode, placed}
-use Rattle.records.proofs.Written.{reads-written, writes-read, stimulus-recovers}
-use Rattle.journal.specs.declared.Answer.the-variants as answer
+use Rattle.records.specs.Form.{longestJournal, longestStimulus}
+use Rattle.records.specs.Encode.{bytesFrom, encode, kept, Writable, Inner}
+use Rattle.records.proofs.Written.{records-are-one, stimulus-recovers}
+use Rattle.machine.specs.declared.Machine.{Machine}
+use Rattle.machine.specs.Machine.{start, agrees, after}
+use Rattle.machine.specs.Run.{Runs, ticks, ticksOf, movesOf}
+use Rattle.machine.specs.Walk.{inTable, completed, Run, ran, tooLong, runOver}
+use Rattle.machine.specs.Walk as walk
+use Rattle.machine.proofs.Steps.{step-taken, Fits, fits-after, start-fits}
+use Rattle.machine.proofs.Walk.{completed-in-range}
+use Rattle.machine.proofs.Over.{went-through}
 use Rattle.journal.specs.Check as checks
-use Rattle.journal.specs.Check.{Outcome, ended, stopped, accepted, inTable, recordsAnswer, answerIn}
-use Rattle.runtime.specs.declared.Answer.the-variants.{Written, TableRefused, TooLong, JournalTooLong, BufferTooShort}
-use Rattle.runtime.specs.Run as runtime
-use Rattle.runtime.specs.Run.{Produced, records, produce}
-use Rattle.runtime.specs.Run.{Run, journal, refused, written, recordsRun, opened, runUnder, runOf, answerOf, bufferOf}
-use Rattle.runtime.proofs.Answering.{opened-with, table-passed}
-use Rattle.laws.specs.Journals.{JournalOf, ticksOf, movesOf}
-use Rattle.laws.specs.Runtimes.{StimulusOf, eventFor, JournalFor, AcceptedFor, Writable, OnlyJournal}
+use Rattle.journal.specs.Check.{answerIn}
+use Rattle.journal.specs.declared.Answer.the-variants as answer
+use Rattle.runtime.specs.declared.Answer.the-variants.{Written, TableRefused, JournalTooLong, BufferTooShort}
+use Rattle.runtime.specs.Run.{Made, journal, refused, madeOf, madeUnder, runOf, answerOf, bufferOf}
+use Rattle.laws.specs.Walks.{RunsOver}
+use Rattle.laws.specs.Journals.{AcceptedRun, JournalOf}
+use Rattle.laws.specs.Runtimes as laws
+use Rattle.laws.specs.Runtimes.{StimulusOf, eventFor, JournalFor, AcceptedFor, OnlyJournal}
 use Rattle.laws.specs.Runtimes.{KeepsTheStimulus, WritesAccepted, WritesTheOnly, SucceedsExactly}
-use Rattle.laws.specs.Runtimes.{RunsExactly, WritesTheJournal, OneOutcome}
+use Rattle.laws.specs.Runtimes.{RunsExactly, WritesTheJournal}
 use Rattle.laws.proofs.Tables.{passes-exactly, holds-that-table}
-use Rattle.laws.proofs.Accepting.{run-runs}
-use Rattle.laws.proofs.Journals.{run-accepted, no-number, under}
-use Rattle.laws.proofs.Filling.{inner-events, ticks-kept, runs-produce, made-unbroken, produce-runs}
+use Rattle.laws.proofs.Walks.{completed-again, kept-end, kept-none, over-written, over-runs, runs-over}
+use Rattle.laws.proofs.Journals.{all-kept, keeps-all, run-accepted, under}
 
--- ---- Bytes and events
+-- ---- Records of a journal, and their events
 
-abbrev events : Table → List ℕ → Items
-events t s = itemsOf form.stimulus (eventInRange (t .inputs)) s
+module _ (t : Table) where
+  -- A record of a journal may be written as it is.
+  timely : (time : ℕ) (b : Bool) → ((time ≤? latest) and b) ≡ true → time ≤ latest
+  timely time b h = leb-true time latest (both (time ≤? latest) b h .0)
+
+  in-time : (r : Record) → inTable form.journal t r ≡ true → timeOf r ≤ latest
+  in-time (Change time input) h = timely time _ h
+  in-time (Poll time input) h = timely time _ h
+  in-time (Test time verdict) h = timely time _ h
+  in-time (Tick time state) h = timely time _ h
+  in-time (End time) h = leb-true time latest h
+
+  -- Of its event too.
+  event-in-range : (r : Record) → inTable form.journal t r ≡ true → inTable form.stimulus t (eventFor r) ≡ true
+  event-in-range (Change time input) h = h
+  event-in-range (Poll time input) h = both (time ≤? latest) _ h .0
+  event-in-range (Test time verdict) h = both (time ≤? latest) _ h .0
+  event-in-range (Tick time state) h = both (time ≤? latest) _ h .0
+  event-in-range (End time) h = h
+
+  event-keeps : (r : Record) → (isEnd (eventFor r) ≡ isEnd r) × (timeOf (eventFor r) ≡ timeOf r) × (kept form.stimulus (eventFor r) ≡ eventFor r)
+  event-keeps (Change time input) = (refl, refl, refl)
+  event-keeps (Poll time input) = (refl, refl, refl)
+  event-keeps (Test time verdict) = (refl, refl, refl)
+  event-keeps (Tick time state) = (refl, refl, refl)
+  event-keeps (End time) = (refl, refl, refl)
+
+  journal-writable : (before : ℕ) (r : Record) → inTable form.journal t r ≡ true → Writable form.journal (inTable form.journal t) before r
+  journal-writable before r h = record { in-range = h; whole = all-kept form.journal refl r; small = omega (arith, in-time r h); timed = refl }
+
+  event-writable : (before : ℕ) (r : Record) → inTable form.journal t r ≡ true → Writable form.stimulus (inTable form.stimulus t) before (eventFor r)
+  event-writable before r h =
+      let k = event-keeps r in
+      record { in-range = event-in-range r h; whole = k .2; small = omega (arith, in-time r h, k .1); timed = refl }
+
+  inner-events : (end before before′ : ℕ) (rs : List Record) → Inner form.journal (inTable form.journal t) before rs end →
+      Inner form.stimulus (inTable form.stimulus t) before′ (map eventFor rs) end
+  inner-events end before before′ [] w = event-writable before′ (End end) (w .in-range)
+  inner-events end before before′ (r ∷ rs) (no-end, w, inner) =
+      (event-keeps r .0 ∙ no-end, event-writable before′ r (w .in-range), inner-events end _ _ rs inner)
+
+  -- Records that the machine takes are in range where their events are.
+  module _ (good : WellFormed t) where
+    taken-in-range : (m : Machine) → Fits t m → (r : Record) → agrees t m r ≡ true → inTable form.stimulus t (eventFor r) ≡ true → inTable form.journal t r ≡ true
+    taken-in-range m fits r agreed h =
+        sym (ap (inTable form.journal t) (completed-again form.stimulus t m r agreed)) ∙ completed-in-range form.stimulus t m good fits (eventFor r) h
+
+    inner-taken : (last : Machine) (end before before′ : ℕ) (m : Machine) → Fits t m → (rs : List Record) → Runs t m (rs ++ End end ∷ []) last →
+        Inner form.stimulus (inTable form.stimulus t) before (map eventFor rs) end → Inner form.journal (inTable form.journal t) before′ rs end
+    inner-taken last end before before′ m fits [] runs w = journal-writable before′ (End end) (w .in-range)
+    inner-taken last end before before′ m fits (r ∷ rs) (steps, more) (no-end, w, inner) =
+        let range = taken-in-range m fits r (step-taken t m r _ steps .0 .agreed) (w .in-range) in (
+          sym (event-keeps r .0) ∙ no-end,
+          journal-writable before′ r range,
+          inner-taken last end _ _ (after t m r) (fits-after t m r good fits range) rs more inner,
+        )
+
+-- The events of a list of records up to its end.
+map-end : (rs : List Record) (end : ℕ) → map eventFor (rs ++ End end ∷ []) ≡ map eventFor rs ++ End end ∷ []
+map-end [] end = refl
+map-end (r ∷ rs) end = ap (λ l. eventFor r ∷ l) (map-end rs end)
+
+split-end : (taken es : List Record) (end : ℕ) → map eventFor taken ≡ es ++ End end ∷ [] →
+    (rs : List Record) × (taken ≡ rs ++ End end ∷ []) × (map eventFor rs ≡ es)
+split-end [] [] end e = apart cc
+split-end [] (x ∷ es) end e = apart cc
+split-end (r ∷ taken) [] end e =
+    let is : r ≡ End end = kept-end form.stimulus r end (cc) in
+    let none : taken ≡ [] = kept-none form.stimulus taken (cc) in
+    ([], rw (is, none) refl, refl)
+split-end (r ∷ taken) (x ∷ es) end e =
+    let is : eventFor r ≡ x = cc in
+    let rest = split-end taken es end (cc) in
+    (r ∷ rest .0, ap (λ l. r ∷ l) (rest .1), rw (is, rest .2) refl)
+
+event-ticks : (r : Record) → ticks r ≡ ticks (eventFor r)
+event-ticks (Change time input) = refl
+event-ticks (Poll time input) = refl
+event-ticks (Test time verdict) = refl
+event-ticks (Tick time state) = refl
+event-ticks (End time) = refl
+
+ticks-kept : (rs : List Record) → ticksOf rs ≡ ticksOf (map eventFor rs)
+unfolding ticksOf
+ticks-kept [] = refl
+ticks-kept (r ∷ rs) = omega (arith, event-ticks r, ticks-kept rs)
 
 -- The stimulus of a journal is one.
 stimulus-of : (t : Table) (s j : List ℕ) (input : ℕ) (rs : List Record) (end : ℕ) → JournalFor t s j input rs end →
@@ -60,32 +146,22 @@ stimulus-of t s j input rs end f = record {
 
 -- ---- What a run that wrote a journal says
 
--- The stimulus is within its limit and opens with an input, and from there on the machine made records of all events.
+-- The machine went through the stimulus, and the journal is of the records that it took.
 record Wrote (t : Table) (s j : List ℕ) : Type 0 where
-  short : length s ≤ 57344
   input : ℕ
-  opens : openingOf form.stimulus (t .inputs) s ≡ opening.Input input
-  made : List Record
-  produced : produce t (start (t .initial) input) (events t s) ≡ records made
-  is : j ≡ field 0x10 (input ∷ []) ++ bytesFrom form.journal 0 made
+  taken : List Record
+  last : Machine
+  through : runOver form.stimulus t s ≡ ran input taken last
+  is : j ≡ field 0x10 (input ∷ []) ++ bytesFrom form.journal 0 taken
 
-wrote : (t : Table) (s j : List ℕ) → runUnder t s ≡ journal j → Wrote t s j
-unfolding runUnder opened recordsRun written
-wrote t s j e = fits (57344 <? length s) refl e
+wrote : (t : Table) (s j : List ℕ) → madeUnder t s ≡ journal j → Wrote t s j
+unfolding madeOf
+wrote t s j e = go (runOver form.stimulus t s) refl e
   where
-    with-records : length s ≤ 57344 → (input : ℕ) → openingOf form.stimulus (t .inputs) s ≡ opening.Input input → (p : Produced) →
-        produce t (start (t .initial) input) (events t s) ≡ p → written (field 0x10 (input ∷ [])) 0 p ≡ journal j → Wrote t s j
-    with-records short input opens (runtime.stopped refusal place) is f = absurd (let z : _≡_ {A = ℕ} 0 1 = cc in omega arith)
-    with-records short input opens (records made) is f = record { short = short; input = input; opens = opens; made = made; produced = is; is = cc }
-
-    with-opening : length s ≤ 57344 → (o : Opening) → openingOf form.stimulus (t .inputs) s ≡ o → opened t s o ≡ journal j → Wrote t s j
-    with-opening short (opening.Refused refusal) is f = absurd (let z : _≡_ {A = ℕ} 0 1 = cc in omega arith)
-    with-opening short (opening.Input input) is f = with-records short input is _ refl f
-
-    fits : (b : Bool) → (57344 <? length s) ≡ b →
-        (if b then refused TooLong else opened t s (openingOf form.stimulus (t .inputs) s)) ≡ journal j → Wrote t s j
-    fits true h f = absurd (let z : _≡_ {A = ℕ} 0 1 = cc in omega arith)
-    fits false h f = with-opening (ltb-false 57344 (length s) h) (openingOf form.stimulus (t .inputs) s) refl f
+    go : (r : Run) → runOver form.stimulus t s ≡ r → madeOf r ≡ journal j → Wrote t s j
+    go (ran input taken last) is f = record { input = input; taken = taken; last = last; through = is; is = cc }
+    go tooLong is f = apart cc
+    go (walk.refused refusal place) is f = apart cc
 
 -- The journal's records are those of a run, and their events are the stimulus's.
 record Filled (t : Table) (j : List ℕ) (input : ℕ) (es : List Record) (end : ℕ) : Type 0 where
@@ -96,24 +172,21 @@ record Filled (t : Table) (j : List ℕ) (input : ℕ) (es : List Record) (end :
   runs : Runs t (start (t .initial) input) (inside ++ End end ∷ []) last
 
 filled : (t : Table) → WellFormed t → (s : List ℕ) (input : ℕ) (es : List Record) (end : ℕ) → StimulusOf t s input es end →
-    (j : List ℕ) → runUnder t s ≡ journal j → Filled t j input es end
+    (j : List ℕ) → madeUnder t s ≡ journal j → Filled t j input es end
 unfolding encode
 filled t good s input es end st j e =
     let w = wrote t s j e in
-    let r = reads-written form.stimulus (eventInRange (t .inputs)) (t .inputs) s input es end st in
-    let same : w .input ≡ input = let y = w .opens in let z = r .0 in cc in
-    let produced = rw (same, r .1) at (w .produced) in
-    let m = produce-runs t good end (start (t .initial) input) (start-fits t input good (st .opens)) 4 0 es (st .inner) (w .made) produced in
-    let is : j ≡ encode form.journal input (m .inside) end =
-    w .is
-    ∙ ap (λ x. field 0x10 (x ∷ []) ++ bytesFrom form.journal 0 (w .made)) same
-    ∙ ap (λ l. field 0x10 (input ∷ []) ++ bytesFrom form.journal 0 l) (m .is) in
+    let o = over-written form.stimulus t s (w .input) (w .taken) (w .last) input es end st (w .through) in
+    let p = split-end (w .taken) es end (o .1) in
+    let runs = rw (o .0, p .1) at (o .2) in
+    let fits = start-fits t input good (st .opens) in
+    let inner = inner-taken t good (w .last) end 0 0 (start (t .initial) input) fits (p .0) runs (rw (p .2) (st .inner)) in
     record {
-      inside = m .inside;
-      events-are = m .events-are;
-      journal-is = record { opens = st .opens; inner = m .inner 0; is = is };
-      last = m .last;
-      runs = m .runs;
+      inside = p .0;
+      events-are = p .2;
+      journal-is = record { opens = st .opens; inner = inner; is = rw (o .0, p .1) at (w .is) };
+      last = w .last;
+      runs = runs;
     }
 
 -- ---- What the runtime writes
@@ -121,105 +194,98 @@ filled t good s input es end st j e =
 pub keeps-the-stimulus : KeepsTheStimulus
 keeps-the-stimulus t good s bytes j e =
     let w = wrote t s j e in
-    let whole = made-unbroken t (start (t .initial) (w .input)) (events t s) (w .made) (w .produced) in
-    let st = writes-read form.stimulus stimulus-recovers (eventInRange (t .inputs)) (t .inputs) s bytes (w .input) (w .opens) whole in
-    let f = filled t good s (w .input) (st .0) (st .1) (st .3) j e in
-    (w .input, f .inside, st .1, record { journal = f .journal-is; stimulus = rw (f .events-are) (st .3 .is) })
+    let o = over-runs form.stimulus t s (w .input) (w .taken) (w .last) stimulus-recovers bytes (w .through) in
+    let f = filled t good s (w .input) (o .said) (o .end) (o .written) j e in
+    (w .input, f .inside, o .end, record { journal = f .journal-is; stimulus = rw (f .events-are) (o .written .is) })
 
 pub writes-accepted : WritesAccepted
 writes-accepted t good s input es end st j e short =
     let f = filled t good s input es end st j e in
     let state = f .last .state in
-    let ticks = ap ticksOf (sym (f .events-are)) ∙ sym (ticks-kept (f .inside)) in (
-      movesOf (t .initial) (f .inside),
-      state,
-      outputOf t state,
-      run-accepted form.journal t j end (ticksOf es) _ state _ (record {
-        short = short;
-        input = input;
-        records = f .inside;
-        written = f .journal-is;
-        last = f .last;
-        runs = f .runs;
-        ticks-are = ticks;
-        moves-are = refl;
-        state-is = refl;
-        output-is = refl;
-      }),
-    )
+    let a : AcceptedRun form.journal t j end (ticksOf es) (movesOf (t .initial) (f .inside)) state (outputOf t state) = record {
+      short = short;
+      input = input;
+      records = f .inside;
+      written = f .journal-is;
+      last = f .last;
+      runs = f .runs;
+      ticks-are = ap ticksOf (sym (f .events-are)) ∙ sym (ticks-kept (f .inside));
+      moves-are = refl;
+      state-is = refl;
+      output-is = refl;
+    } in
+    (movesOf (t .initial) (f .inside), state, outputOf t state, run-accepted form.journal refl t j end (ticksOf es) _ state _ a)
 
 -- ---- Any accepted journal with that stimulus
 
 accepted-runs : (t : Table) (j : List ℕ) (input : ℕ) (rs : List Record) (end : ℕ) → JournalOf t j input rs end →
     (ticks moves state output : ℕ) → answerIn form.journal t j ≡ answer.Accepted end ticks moves state output →
     (last : Machine) × Runs t (start (t .initial) input) (rs ++ End end ∷ []) last
-unfolding answerIn checks.opened recordsAnswer
-accepted-runs t j input rs end is ticks moves state output e = fits (65536 <? length j) e
+unfolding checks.answerOf
+accepted-runs t j input rs end is ticks moves state output e = go (runOver form.journal t j) refl e
   where
-    ran : (o : Outcome) → checks.run t (start (t .initial) input) (placed form.journal 4 rs end) ≡ o →
-        accepted t (placed form.journal 4 rs end) o ≡ answer.Accepted end ticks moves state output →
+    go : (r : Run) → runOver form.journal t j ≡ r → checks.answerOf t r ≡ answer.Accepted end ticks moves state output →
         (last : Machine) × Runs t (start (t .initial) input) (rs ++ End end ∷ []) last
-    ran (stopped refusal place) r f = absurd (let z : _≡_ {A = ℕ} 0 1 = cc in omega arith)
-    ran (ended m) r f = (m, run-runs t m form.journal end (start (t .initial) input) 4 rs r)
-
-    fits : (b : Bool) →
-        (if b then answer.TooLong else checks.opened form.journal t j (openingOf form.journal (t .inputs) j)) ≡ answer.Accepted end ticks moves state output →
-        (last : Machine) × Runs t (start (t .initial) input) (rs ++ End end ∷ []) last
-    fits true f = absurd (let z : _≡_ {A = ℕ} 0 1 = cc in omega arith)
-    fits false f =
-        let p = reads-written form.journal (inTable t) (t .inputs) j input rs end is in
-        ran _ refl (rw (p .0, p .1) at f)
+    go (ran input′ taken last) r f =
+        let o = over-written form.journal t j input′ taken last input rs end is r in
+        let all : taken ≡ rs ++ End end ∷ [] = sym (keeps-all form.journal refl taken) ∙ o .1 in
+        (last, rw (o .0, all) at (o .2))
+    go tooLong r f = apart cc
+    go (walk.refused refusal place) r f = apart cc
 
 -- The runtime writes it, if the stimulus is within its limit.
-writes : (t : Table) (s j : List ℕ) → length s ≤ 57344 → AcceptedFor t s j → runUnder t s ≡ journal j
-unfolding recordsRun written encode
+writes : (t : Table) (s j : List ℕ) → length s ≤ longestStimulus → AcceptedFor t s j → madeUnder t s ≡ journal j
+unfolding madeOf encode
 writes t s j short a =
-    let of = stimulus-of t s j (a .input) (a .records) (a .end) (a .for) in
-    let st = reads-written form.stimulus (eventInRange (t .inputs)) (t .inputs) s (a .input) (map eventFor (a .records)) (a .end) of in
     let r = accepted-runs t j (a .input) (a .records) (a .end) (a .for .journal) (a .ticks) (a .moves) (a .state) (a .output) (a .accepted) in
-    let made = runs-produce t (r .0) (a .end) (start (t .initial) (a .input)) 4 (a .records) (r .1) in
-    sym (opened-with t s short (openingOf form.stimulus (t .inputs) s) refl (a .input) (st .0))
-    ∙ rw (st .1, made, ← a .for .journal .is) refl
+    let taken = a .records ++ End (a .end) ∷ [] in
+    let over : RunsOver form.stimulus t s (a .input) taken (r .0) = record {
+      short = short;
+      said = map eventFor (a .records);
+      end = a .end;
+      written = stimulus-of t s j (a .input) (a .records) (a .end) (a .for);
+      says = map-end (a .records) (a .end);
+      runs = r .1;
+    } in
+    ap madeOf (runs-over form.stimulus t s (a .input) taken (r .0) over) ∙ ap journal (sym (a .for .journal .is))
 
 pub writes-the-only : WritesTheOnly
 writes-the-only t s j e j′ a =
-    let same : journal j′ ≡ journal j = sym (writes t s j′ (wrote t s j e .short) a) ∙ e in
+    let w = wrote t s j e in
+    let short = went-through form.stimulus t s (w .input) (w .taken) (w .last) (w .through) .short in
+    let same : journal j′ ≡ journal j = sym (writes t s j′ short a) ∙ e in
     cc
 
 -- ---- Success
 
 -- No refusal has the answer of success.
-never-refused : (t : Table) (s : List ℕ) (size : ℕ) → runUnder t s ≡ refused (Written size) → ⊥
-unfolding runUnder opened recordsRun written
-never-refused t s size e = fits (57344 <? length s) (openingOf form.stimulus (t .inputs) s) e
+never-refused : (t : Table) (s : List ℕ) (size : ℕ) → madeUnder t s ≡ refused (Written size) → ⊥
+unfolding madeOf
+never-refused t s size e = go (runOver form.stimulus t s) e
   where
-    with-records : (front : List ℕ) (p : Produced) → written front 0 p ≡ refused (Written size) → ⊥
-    with-records front (records made) f = let z : _≡_ {A = ℕ} 0 1 = cc in omega arith
-    with-records front (runtime.stopped refusal place) f = let z : _≡_ {A = ℕ} 0 1 = cc in omega arith
-
-    fits : (b : Bool) (o : Opening) → (if b then refused TooLong else opened t s o) ≡ refused (Written size) → ⊥
-    fits true o f = let z : _≡_ {A = ℕ} 0 1 = cc in omega arith
-    fits false (opening.Refused refusal) f = let z : _≡_ {A = ℕ} 0 1 = cc in omega arith
-    fits false (opening.Input input) f = with-records (field 0x10 (input ∷ [])) (produce t (start (t .initial) input) (events t s)) f
+    go : (r : Run) → madeOf r ≡ refused (Written size) → ⊥
+    go (ran input taken last) f = apart cc
+    go tooLong f = apart cc
+    go (walk.refused refusal place) f = apart cc
 
 -- A journal that is within its limit and has room.
-fitting : (j : List ℕ) (room size : ℕ) → answerOf (journal j) room ≡ Written size → (length j ≡ size) × (size ≤ room) × (size ≤ 65536)
+fitting : (j : List ℕ) (room size : ℕ) → answerOf (journal j) room ≡ Written size → (length j ≡ size) × (size ≤ room) × (size ≤ longestJournal)
 unfolding answerOf
-fitting j room size e = go (65536 <? length j) refl (room <? length j) refl e
+fitting j room size e = go (longestJournal <? length j) refl (room <? length j) refl e
   where
-    go : (a : Bool) → (65536 <? length j) ≡ a → (b : Bool) → (room <? length j) ≡ b →
+    go : (a : Bool) → (longestJournal <? length j) ≡ a → (b : Bool) → (room <? length j) ≡ b →
         (if a then JournalTooLong else if b then BufferTooShort else Written (length j)) ≡ Written size →
-        (length j ≡ size) × (size ≤ room) × (size ≤ 65536)
-    go true ea b eb f = absurd (let z : _≡_ {A = ℕ} 0 1 = cc in omega arith)
-    go false ea true eb f = absurd (let z : _≡_ {A = ℕ} 0 1 = cc in omega arith)
+        (length j ≡ size) × (size ≤ room) × (size ≤ longestJournal)
+    go true ea b eb f = apart cc
+    go false ea true eb f = apart cc
     go false ea false eb f =
         let same : length j ≡ size = cc in
-        let short = ltb-false 65536 (length j) ea in
+        let short = ltb-false longestJournal (length j) ea in
         let fits = ltb-false room (length j) eb in
         (same, omega arith, omega arith)
 
 module _ (t : Table) (good : WellFormed t) (s : List ℕ) (bytes : Bytes s) where
-  accepted-for : (j : List ℕ) → runUnder t s ≡ journal j → length j ≤ 65536 → AcceptedFor t s j
+  accepted-for : (j : List ℕ) → madeUnder t s ≡ journal j → length j ≤ longestJournal → AcceptedFor t s j
   accepted-for j e short =
       let k = keeps-the-stimulus t good s bytes j e in
       let st = stimulus-of t s j (k .0) (k .1) (k .2) (k .3) in
@@ -236,27 +302,28 @@ module _ (t : Table) (good : WellFormed t) (s : List ℕ) (bytes : Bytes s) wher
         accepted = a .3;
       }
 
-  succeeded : (room size : ℕ) → answerOf (runUnder t s) room ≡ Written size → Writable t s room size
+  succeeded : (room size : ℕ) → answerOf (madeUnder t s) room ≡ Written size → laws.Writable t s room size
   unfolding answerOf
-  succeeded room size e = go (runUnder t s) refl e
+  succeeded room size e = go (madeUnder t s) refl e
     where
-      go : (r : Run) → runUnder t s ≡ r → answerOf r room ≡ Written size → Writable t s room size
+      go : (r : Made) → madeUnder t s ≡ r → answerOf r room ≡ Written size → laws.Writable t s room size
       go (refused answer) is f = absurd (never-refused t s size (is ∙ ap refused f))
       go (journal j) is f =
           let p = fitting j room size f in
+          let w = wrote t s j is in
           record {
             journal = j;
             accepted = accepted-for j is (omega (arith, p .0, p .2));
             size-is = p .0;
             fits = p .1;
             within = p .2;
-            short = wrote t s j is .short;
+            short = went-through form.stimulus t s (w .input) (w .taken) (w .last) (w .through) .short;
           }
 
-  succeeds : (room size : ℕ) → Writable t s room size → answerOf (runUnder t s) room ≡ Written size
+  succeeds : (room size : ℕ) → laws.Writable t s room size → answerOf (madeUnder t s) room ≡ Written size
   unfolding answerOf
   succeeds room size w =
-      rw (writes t s (w .journal) (w .short) (w .accepted), w .size-is, le-ltb 65536 size (w .within), le-ltb room size (w .fits)) refl
+      rw (writes t s (w .journal) (w .short) (w .accepted), w .size-is, le-ltb longestJournal size (w .within), le-ltb room size (w .fits)) refl
 
 pub succeeds-exactly : SucceedsExactly
 succeeds-exactly t good s bytes room size = (succeeded t good s bytes room size, succeeds t good s bytes room size)

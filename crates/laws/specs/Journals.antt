@@ -2,7 +2,8 @@
 use mathlib.Core.Path.{_≡_}
 use mathlib.Core.List.{List, [], _∷_, _++_}
 use mathlib.Core.Logic.{_↔_}
-use Prim.Native.Nat.{ℕ, _+_, _≤_}
+use mathlib.Core.Bool.{true}
+use Prim.Native.Nat.{ℕ, _≤_}
 use lib.ListN.{length}
 use Rattle.wire.specs.Encode.{Bytes}
 use Rattle.table.specs.declared.Table.{Table}
@@ -12,37 +13,28 @@ use Rattle.machine.specs.declared.Machine.{Machine}
 use Rattle.records.specs.declared.Record.{Record}
 use Rattle.records.specs.declared.Record.the-variants.{End}
 use Rattle.machine.specs.Machine.{start}
-use Rattle.machine.specs.Run.{Runs}
+use Rattle.machine.specs.Run.{Runs, ticksOf, movesOf}
+use Rattle.machine.specs.Walk.{inTable}
 use Rattle.journal.specs.declared.Answer.{Answer}
 use Rattle.journal.specs.declared.Answer.the-variants.{Accepted}
 use Rattle.records.specs.Form.{Form, journal}
 use Rattle.records.specs.Encode.{WrittenAs, Recovers}
-use Rattle.journal.specs.Check.{inTable, ticks, moves, stateFrom, answerIn, checkOf}
+use Rattle.journal.specs.Check.{answerIn, checkOf}
 
 -- ---- Bytes and records: records/specs/Encode states it for every form
 
 -- The bytes are a journal of these records, in range of the table.
 abbrev pub JournalOf : Table → List ℕ → ℕ → List Record → ℕ → Type 0
-JournalOf t s input rs end = WrittenAs journal (inTable t) (t .inputs) s input rs end
+JournalOf t s input rs end = WrittenAs journal (inTable journal t) (t .inputs) s input rs end
 
 -- ---- Acceptance
 
--- The ticks among the records.
-unfoldable pub ticksOf : List Record → ℕ
-ticksOf [] = 0
-ticksOf (r ∷ rs) = ticks r + ticksOf rs
-
--- The moves among them, from the state q on.
-unfoldable pub movesOf : ℕ → List Record → ℕ
-movesOf q [] = 0
-movesOf q (r ∷ rs) = moves q r + movesOf (stateFrom q r) rs
-
 -- The bytes are records, in this form, that the machine runs to their end, and the numbers are those of the run.
 pub record AcceptedRun (F : Form) (t : Table) (s : List ℕ) (end ticks moves state output : ℕ) : Type 0 where
-  pub short : length s ≤ 65536
+  pub short : length s ≤ F .most
   pub input : ℕ
   pub records : List Record
-  pub written : WrittenAs F (inTable t) (t .inputs) s input records end
+  pub written : WrittenAs F (inTable F t) (t .inputs) s input records end
   pub last : Machine
   pub runs : Runs t (start (t .initial) input) (records ++ End end ∷ []) last
   pub ticks-are : ticks ≡ ticksOf records
@@ -50,9 +42,9 @@ pub record AcceptedRun (F : Form) (t : Table) (s : List ℕ) (end ticks moves st
   pub state-is : state ≡ last .state
   pub output-is : output ≡ outputOf t state
 
--- Under a table the bytes that are accepted are exactly the records, in this form, that its machine runs.
+-- Under a table the bytes that are accepted are exactly the records, in this form, that its machine runs. The form says every value.
 abbrev pub AcceptsExactly : Form → Type 0
-AcceptsExactly F = Recovers F → (t : Table) (s : List ℕ) → Bytes s → (end ticks moves state output : ℕ) →
+AcceptsExactly F = F .valued ≡ true → Recovers F → (t : Table) (s : List ℕ) → Bytes s → (end ticks moves state output : ℕ) →
     (answerIn F t s ≡ Accepted end ticks moves state output) ↔ AcceptedRun F t s end ticks moves state output
 
 -- The entry accepts exactly the bytes of a well-formed table with a journal that the table's machine runs.

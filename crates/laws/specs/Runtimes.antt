@@ -13,18 +13,20 @@ use Rattle.records.specs.declared.Refusal.the-variants.{Differs}
 use Rattle.journal.specs.declared.Answer.the-variants.{Accepted}
 use Rattle.journal.specs.Check.{answerIn, checkOf}
 use Rattle.records.specs.Form as form
-use Rattle.records.specs.Reading.{eventInRange}
+use Rattle.records.specs.Form.{longestJournal, longestStimulus}
 use Rattle.records.specs.Encode.{encode, kept, WrittenAs}
 use Rattle.runtime.specs.declared.Answer.{Answer}
 use Rattle.runtime.specs.declared.Answer.the-variants.{Written, Refused}
-use Rattle.runtime.specs.Run.{journal, refused, runUnder, runOf, answerOf, bufferOf}
-use Rattle.laws.specs.Journals.{JournalOf, ticksOf}
+use Rattle.runtime.specs.Run.{journal, refused, madeUnder, runOf, answerOf, bufferOf}
+use Rattle.machine.specs.Run.{ticksOf}
+use Rattle.machine.specs.Walk.{inTable}
+use Rattle.laws.specs.Journals.{JournalOf}
 
 -- ---- Stimuli
 
 -- The bytes are a stimulus of these events, in range of the table.
 abbrev pub StimulusOf : Table → List ℕ → ℕ → List Record → ℕ → Type 0
-StimulusOf t s input es end = WrittenAs form.stimulus (eventInRange (t .inputs)) (t .inputs) s input es end
+StimulusOf t s input es end = WrittenAs form.stimulus (inTable form.stimulus t) (t .inputs) s input es end
 
 -- What a stimulus keeps of a record: all but the polled input, the verdict and the state.
 abbrev pub eventFor : Record → Record
@@ -39,13 +41,13 @@ pub record JournalFor (t : Table) (s j : List ℕ) (input : ℕ) (rs : List Reco
 
 -- It is a journal whose stimulus is the one that was given.
 abbrev pub KeepsTheStimulus : Type 0
-KeepsTheStimulus = (t : Table) → WellFormed t → (s : List ℕ) → Bytes s → (j : List ℕ) → runUnder t s ≡ journal j →
+KeepsTheStimulus = (t : Table) → WellFormed t → (s : List ℕ) → Bytes s → (j : List ℕ) → madeUnder t s ≡ journal j →
     (input : ℕ) × (rs : List Record) × (end : ℕ) × JournalFor t s j input rs end
 
 -- The journal check accepts it under the same table, with the stimulus's T and number of ticks.
 abbrev pub WritesAccepted : Type 0
 WritesAccepted = (t : Table) → WellFormed t → (s : List ℕ) (input : ℕ) (es : List Record) (end : ℕ) → StimulusOf t s input es end →
-    (j : List ℕ) → runUnder t s ≡ journal j → length j ≤ 65536 →
+    (j : List ℕ) → madeUnder t s ≡ journal j → length j ≤ longestJournal →
     (moves : ℕ) × (state : ℕ) × (output : ℕ) × (answerIn form.journal t j ≡ Accepted end (ticksOf es) moves state output)
 
 -- The bytes j are an accepted journal, and s is its stimulus.
@@ -62,7 +64,7 @@ pub record AcceptedFor (t : Table) (s j : List ℕ) : Type 0 where
 
 -- There is no other accepted journal with that stimulus.
 abbrev pub WritesTheOnly : Type 0
-WritesTheOnly = (t : Table) (s j : List ℕ) → runUnder t s ≡ journal j → (j′ : List ℕ) → AcceptedFor t s j′ → j′ ≡ j
+WritesTheOnly = (t : Table) (s j : List ℕ) → madeUnder t s ≡ journal j → (j′ : List ℕ) → AcceptedFor t s j′ → j′ ≡ j
 
 -- An accepted journal of this many bytes exists for the stimulus; it fits the buffer, and both are within their limits.
 pub record Writable (t : Table) (s : List ℕ) (room size : ℕ) : Type 0 where
@@ -70,17 +72,17 @@ pub record Writable (t : Table) (s : List ℕ) (room size : ℕ) : Type 0 where
   pub accepted : AcceptedFor t s journal
   pub size-is : length journal ≡ size
   pub fits : size ≤ room
-  pub within : size ≤ 65536
-  pub short : length s ≤ 57344
+  pub within : size ≤ longestJournal
+  pub short : length s ≤ longestStimulus
 
 -- The runtime succeeds exactly then.
 abbrev pub SucceedsExactly : Type 0
 SucceedsExactly = (t : Table) → WellFormed t → (s : List ℕ) → Bytes s → (room size : ℕ) →
-    (answerOf (runUnder t s) room ≡ Written size) ↔ Writable t s room size
+    (answerOf (madeUnder t s) room ≡ Written size) ↔ Writable t s room size
 
 -- It never gives 28.
 abbrev pub NeverDiffers : Type 0
-NeverDiffers = (t : Table) (s : List ℕ) (place : ℕ) → runUnder t s ≡ refused (Refused Differs place) → ⊥
+NeverDiffers = (t : Table) (s : List ℕ) (place : ℕ) → madeUnder t s ≡ refused (Refused Differs place) → ⊥
 
 -- ---- The entry
 

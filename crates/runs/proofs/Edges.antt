@@ -13,8 +13,8 @@ use Rattle.table.specs.Table.{holdOf, delays}
 use Rattle.machine.specs.declared.Machine.{Machine}
 use Rattle.records.specs.declared.Record.{Record}
 use Rattle.records.specs.declared.Record.the-variants.{Change, Poll, Test, Tick, End}
-use Rattle.records.specs.Record.{timeOf, kindOf}
-use Rattle.machine.specs.Machine.{allowed, settled, heldBy, verdict, stateAfter, agrees, after}
+use Rattle.records.specs.Record.{timeOf}
+use Rattle.machine.specs.Machine.{kindOf, allowed, settled, heldBy, verdict, stateAfter, agrees, after}
 use Rattle.machine.proofs.Steps.{Taken}
 use Rattle.runs.specs.Automaton.{Configuration, at, Edge, ta-1, ta-2, ta-3, ta-4, ta-5, ta-6, ta-7, ta-8, end}
 use Rattle.runs.proofs.Records.{phases, state-kept, entry-kept, state-next}
