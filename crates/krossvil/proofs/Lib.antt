@@ -1,7 +1,3 @@
 pub mod TablePlaces
-pub mod JournalPlaces
-pub mod RunPlaces
-pub mod ReactionPlaces
+pub mod Places
 pub mod Outcomes
-pub mod Answers
-pub mod Determined

@@ -1,42 +1,126 @@
 -- What each entry owes the host, whatever the entry.
-use mathlib.Core.Path.{_≡_, refl, ap, _∙_}
+use mathlib.Core.Path.{_≡_, refl, sym, ap, _∙_}
 use mathlib.Core.List.{List, [], _∷_, _++_}
+use mathlib.Core.Bool.{Bool, true, false}
 use Prim.Native.Nat.{ℕ, suc, _+_, _*_, _<_, _≤_}
 use native.Mathlib.Omega.{arith}
 use borrow.Author.Tests.{lt-ltb, le-ltb}
+use types.Run.{OneOf, miss}
+use denote.Enum.Declared.{tagOf}
 use lib.ListN.{length, getD, take, drop, length-append, length-drop}
 use lib.Seq.{drop-append-add, length-take-le, take-all, take-at, take-suc, drop-drop}
+use Rattle.wire.specs.Choice.{_<?_, _=?_, if_then_else_}
 use Rattle.wire.specs.Encode.{bytes32, placedIn}
-use Rattle.krossvil.proofs.TablePlaces.{Small}
-use Rattle.krossvil.specs.Host.{numbered, codeOf, numberBytes, answerAfter}
+use Rattle.wire.specs.Reply.{Reply, gives, refuses, numberIn, placeIn, valuesIn}
+use Rattle.journal.specs.declared.Answer as journal′
+use Rattle.journal.specs.declared.Answer.the-variants as checked
+use Rattle.journal.specs.Answer as journal
+use Rattle.journal.proofs.Answer as JournalT
+use Rattle.runtime.specs.declared.Answer as runtime′
+use Rattle.runtime.specs.declared.Answer.the-variants as made
+use Rattle.runtime.specs.Answer as runtime
+use Rattle.runtime.specs.Run as run
+use Rattle.runtime.specs.Run.{Made, answerOf, bufferOf}
+use Rattle.runtime.proofs.Answer as RuntimeT
+use Rattle.reaction.specs.declared.Answer as reaction′
+use Rattle.reaction.specs.declared.Answer.the-variants as reacted
+use Rattle.reaction.specs.Answer as reaction
+use Rattle.reaction.proofs.Answer as ReactionT
+use Rattle.krossvil.specs.Host.{told, numbered, codeOf, numberBytes, answerAfter, journalAfter}
+use Rattle.krossvil.specs.Small.{Fits}
+use Rattle.krossvil.proofs.TablePlaces.{table-none}
 
 -- The code, and the answer buffer after it.
-abbrev pub Owed : ℕ → ℕ → List ℕ → List ℕ → ℕ → List ℕ → Type 0
-Owed number place numbers before code after = (code ≡ codeOf number place numbers (length before)) × (after ≡ answerAfter numbers before)
+abbrev pub Owed : Reply → List ℕ → ℕ → List ℕ → Type 0
+Owed reply before code after = (code ≡ codeOf (told reply (length before))) × (after ≡ answerAfter (told reply (length before)) before)
 
--- `a` is the entry's answer by its contract, with its number, its place and its numbers.
-module _ {A : Type 0} (numberOf placeOf : A → ℕ) (right a : A) (is : a ≡ right) (n p : ℕ) (en : n ≡ numberOf a) (ep : p ≡ placeOf a) where
-  pub fits : Small (numberOf right) (placeOf right) → Small n p
-  fits small = rw (en, ep, is) small
+-- ---- A success
 
-  pub numbered-is : (code : ℕ) → code ≡ numbered n p → code ≡ numbered (numberOf right) (placeOf right)
-  numbered-is code e = rw (e, en, ep, is) refl
-
-  pub told : (numbersOf : A → List ℕ) (numbers : List ℕ) → numbers ≡ numbersOf a → (before after : List ℕ) (code : ℕ) →
-      Owed n p numbers before code after → Owed (numberOf right) (placeOf right) (numbersOf right) before code after
-  told numbersOf numbers are before after code owed = rw (← is, ← en, ← ep, ← are) owed
-
--- ---- The end of every entry
-
-module _ (number place : ℕ) (numbers before : List ℕ) (code : ℕ) where
-  pub too-short : length before < 4 * length numbers → code ≡ numbered 30 0 → Owed number place numbers before code before
-  unfolding codeOf answerAfter
+module _ (numbers before : List ℕ) (code : ℕ) where
+  pub too-short : length before < 4 * length numbers → code ≡ numbered 30 0 → Owed (gives numbers) before code before
+  unfolding told numberBytes
   too-short h e = rw (e, lt-ltb (length before) (4 * length numbers) h) (refl, refl)
 
-  pub long-enough : 4 * length numbers ≤ length before → code ≡ numbered number place → (after : List ℕ) →
-      after ≡ numberBytes numbers ++ drop (4 * length numbers) before → Owed number place numbers before code after
-  unfolding codeOf answerAfter
+  pub long-enough : 4 * length numbers ≤ length before → code ≡ 0 → (after : List ℕ) →
+      after ≡ numberBytes numbers ++ drop (4 * length numbers) before → Owed (gives numbers) before code after
+  unfolding told
   long-enough h e after is = rw (e, is, le-ltb (length before) (4 * length numbers) h) (refl, refl)
+
+-- What is owed for an answer is owed for the answer that the entry's contract gives.
+pub owed-same : {A : Type 0} (replyOf : A → Reply) (a right : A) (reply : Reply) → a ≡ right → reply ≡ replyOf a → (before after : List ℕ) (code : ℕ) →
+    Owed reply before code after → Owed (replyOf right) before code after
+owed-same replyOf a right reply is e before after code owed = rw (← is, ← e) owed
+
+-- ---- A refusal
+
+-- No answer is too short for a reply that has no numbers.
+pub owed-none : (reply : Reply) → valuesIn reply ≡ [] → (n p : ℕ) → n ≡ numberIn reply → p ≡ placeIn reply → (before : List ℕ) (code : ℕ) → code ≡ numbered n p →
+    Owed reply before code before
+unfolding told numberBytes
+owed-none reply none n p en ep before code e =
+    let enough = le-ltb (length before) 0 (omega arith) in
+    rw (none, enough, none) (rw (e, en, ep) refl, refl)
+
+-- `a` is the entry's answer by its contract, with its number and its place.
+module _ {A : Type 0} (replyOf : A → Reply) (right a : A) (is : a ≡ right) (n p : ℕ) (en : n ≡ numberIn (replyOf a)) (ep : p ≡ placeIn (replyOf a)) where
+  pub fits : Fits (replyOf right) → Fits (refuses n p)
+  fits h = record { number = rw (en, is) (h .number); place = rw (ep, is) (h .place) }
+
+  pub refused : valuesIn (replyOf a) ≡ [] → (before : List ℕ) (code : ℕ) → code ≡ numbered n p → Owed (replyOf right) before code before
+  refused none before code e = rw (← is) (owed-none (replyOf a) none n p en ep before code e)
+
+-- What a `let .. else` on a success leaves has no numbers.
+pub journal-none : (a : journal′.Answer) → OneOf (1 ∷ 2 ∷ 3 ∷ []) (tagOf JournalT.the-type a) → valuesIn (journal.replyOf a) ≡ []
+journal-none (checked.Accepted end ticks moves state output) h = absurd (miss (1 ∷ 2 ∷ 3 ∷ []) 0 tt h)
+journal-none (checked.TableRefused answer) h = table-none answer
+journal-none checked.TooLong h = refl
+journal-none (checked.Refused refusal place) h = refl
+
+pub run-none : (a : runtime′.Answer) → OneOf (1 ∷ 2 ∷ 3 ∷ 4 ∷ 5 ∷ []) (tagOf RuntimeT.the-type a) → valuesIn (runtime.replyOf a) ≡ []
+run-none (made.Written size) h = absurd (miss (1 ∷ 2 ∷ 3 ∷ 4 ∷ 5 ∷ []) 0 tt h)
+run-none (made.TableRefused answer) h = table-none answer
+run-none made.TooLong h = refl
+run-none (made.Refused refusal place) h = refl
+run-none made.JournalTooLong h = refl
+run-none made.BufferTooShort h = refl
+
+pub reaction-none : (a : reaction′.Answer) → OneOf (1 ∷ 2 ∷ 3 ∷ 4 ∷ []) (tagOf ReactionT.the-type a) → valuesIn (reaction.replyOf a) ≡ []
+reaction-none (reacted.Reacts time target) h = absurd (miss (1 ∷ 2 ∷ 3 ∷ 4 ∷ []) 0 tt h)
+reaction-none (reacted.TableRefused refusal) h = table-none refusal
+reaction-none reacted.UnknownState h = refl
+reaction-none reacted.UnknownInput h = refl
+reaction-none (reacted.LeavesStates at) h = refl
+
+-- ---- The runtime
+
+-- The code, the answer buffer and the journal buffer.
+abbrev RunOwed : Made → List ℕ → List ℕ → ℕ → List ℕ → List ℕ → Type 0
+RunOwed m buffer before code after written =
+    let reply = told (runtime.replyOf (answerOf m (length buffer))) (length before) in
+    (code ≡ codeOf reply) × ((after ≡ answerAfter reply before) × (written ≡ journalAfter reply m buffer))
+
+-- With room for no number, the room for the journal makes no difference: a success is 30 at 0 either way, and both buffers are as they were.
+module _ (answer : List ℕ) (short : length answer < 4) where
+  told-short : (n : ℕ) → told (gives (n ∷ [])) (length answer) ≡ told (refuses 30 0) (length answer)
+  unfolding told
+  told-short n = rw (lt-ltb (length answer) 4 short, le-ltb (length answer) 0 (omega arith)) refl
+
+  any-room : (m : Made) (room other : ℕ) →
+      told (runtime.replyOf (answerOf m room)) (length answer) ≡ told (runtime.replyOf (answerOf m other)) (length answer)
+  unfolding answerOf
+  any-room (run.refused a) room other = refl
+  any-room (run.journal bytes) room other = ?
+
+  pub short-owed : (m : Made) (room : ℕ) (buffer : List ℕ) (a : runtime′.Answer) → a ≡ answerOf m room → (code : ℕ) (after : List ℕ) →
+      Owed (runtime.replyOf a) answer code after → RunOwed m buffer answer code after buffer
+  unfolding journalAfter bufferOf answerOf
+  short-owed m room buffer a is code after owed = ?
+
+pub long-owed : (answer : List ℕ) → 4 ≤ length answer → (m : Made) (buffer written : List ℕ) → written ≡ bufferOf m buffer →
+    (a : runtime′.Answer) → a ≡ answerOf m (length buffer) → (code : ℕ) (after : List ℕ) →
+    Owed (runtime.replyOf a) answer code after → RunOwed m buffer answer code after written
+unfolding journalAfter bufferOf
+long-owed answer long m buffer written w a is code after owed = ?
 
 -- ---- Numbers put one after another
 

@@ -1,119 +1,106 @@
 -- Refusal numbers are at most 30 and places are below 2^32, so that both fit into one number of 64 bits: the table's.
 use mathlib.Core.Path.{_≡_, refl}
-use mathlib.Core.Logic.{_⊎_, inl, inr}
-use mathlib.Core.List.{List}
-use mathlib.Core.Bool.{Bool, true, false}
-use Prim.Native.Nat.{ℕ, _*_, _^_, _<_, _≤_}
+use mathlib.Core.List.{List, []}
+use mathlib.Core.Bool.{Bool, true, false, _&&_}
+use Prim.Native.Nat.{ℕ, zero, suc, _+_, _*_, _^_, _<_, _≤_}
 use native.Mathlib.Nat.{mul-le-mul}
 use native.Mathlib.Omega.{arith}
-use borrow.Author.Tests.{ltb-true}
 use lib.ListN.{length}
-use Rattle.wire.specs.Choice.{_<?_, _≤?_, _=?_, _and_, if_then_else_}
+use Rattle.wire.specs.Choice.{_≤?_, _=?_, if_then_else_}
 use Rattle.wire.specs.Field.{fieldAt}
+use Rattle.wire.specs.Reply.{numberIn, placeIn, valuesIn}
 use Rattle.wire.specs.declared.Field.{Field}
 use Rattle.wire.specs.declared.Field.the-variants.{Whole, RunOut}
 use Rattle.table.specs.declared.Answer.{Answer}
 use Rattle.table.specs.declared.Answer.the-variants as verdict
 use Rattle.table.specs.declared.Counts.{Counts}
-use Rattle.table.specs.declared.Checked.{Checked}
-use Rattle.table.specs.Answer.{numberOf, placeOf, _and-then_}
-use Rattle.table.specs.Entries.{firstFrom}
-use Rattle.table.specs.Check.{named, fieldAnswer, badEntry, entriesBelow, rowAnswer, inRange, countsInRange, countsIn, boundIn, headAnswer}
-use Rattle.table.specs.Check.{tableEnd, entriesAnswer, tableAnswer, checkedAs, checkedOf}
-use Rattle.table.proofs.Laws.{head-stands}
+use Rattle.table.specs.Answer.{replyOf, _or-else_, _and-then_}
+use Rattle.table.specs.Entries.{entriesFrom}
+use Rattle.table.specs.Check.{named, fieldAnswer, rowAnswer, below, badWord, countsAnswer, boundAnswer, countsIn}
+use Rattle.table.specs.Check.{holdsAnswer, entriesAnswer, tableAnswer}
+use Rattle.table.proofs.Answers.{decided}
+use Rattle.table.proofs.Stands.{counts-stand}
+use Rattle.krossvil.specs.Small.{Fits}
 
-abbrev pub Small : ℕ → ℕ → Type 0
-Small number place = (number ≤ 30) × (place < 2 ^ 32)
+-- The table's refusals have no numbers.
+pub table-none : (a : Answer) → valuesIn (replyOf a) ≡ []
+table-none verdict.Passes = refl
+table-none (verdict.RunsOut at) = refl
+table-none (verdict.WrongTagOrLength at) = refl
+table-none (verdict.CountOutOfRange at) = refl
+table-none (verdict.BoundOutOfRange at) = refl
+table-none (verdict.EntryOutOfRange at) = refl
+table-none (verdict.HoldTooLong at) = refl
+table-none (verdict.UnknownInputDelayed at) = refl
+table-none (verdict.BytesAfter at) = refl
 
--- The refusal's number is small, and its place is at most this one.
-record By (limit : ℕ) (a : Answer) : Type 0 where
-  number : numberOf a ≤ 8
-  place : placeOf a ≤ limit
+-- A table has fewer than 2,000 bytes up to its last entry.
+record By (a : Answer) : Type 0 where
+  number : numberIn (replyOf a) ≤ 30
+  place : placeIn (replyOf a) ≤ 2000
 
-small : (a : Answer) → By 2000 a → Small (numberOf a) (placeOf a)
-small a by = (omega (arith, by .number), omega (arith, by .place))
+passing : By verdict.Passes
+passing = record { number = omega arith; place = omega arith }
 
-pub decided : (a : Answer) → (a ≡ verdict.Passes) ⊎ ((numberOf a =? 0) ≡ false)
-decided verdict.Passes = inl refl
-decided (verdict.RunsOut at) = inr refl
-decided (verdict.WrongTagOrLength at) = inr refl
-decided (verdict.CountOutOfRange at) = inr refl
-decided (verdict.BoundOutOfRange at) = inr refl
-decided (verdict.EntryOutOfRange at) = inr refl
-decided (verdict.HoldTooLong at) = inr refl
-decided (verdict.UnknownInputDelayed at) = inr refl
-decided (verdict.BytesAfter at) = inr refl
+by-then : (a b : Answer) → By a → (a ≡ verdict.Passes → By b) → By (a and-then b)
+unfolding _and-then_
+by-then a b p q = decided a (λ e. rw e (q e)) (λ r other. rw r p)
 
-module _ (limit : ℕ) where
-  by-then : (a b : Answer) → By limit a → (a ≡ verdict.Passes → By limit b) → By limit (a and-then b)
-  unfolding _and-then_
-  by-then a b p q = go (decided a)
+by-test : (test : Bool) (a : Answer) → By a → By (test or-else a)
+unfolding _or-else_
+by-test true a p = passing
+by-test false a p = p
+
+by-entries : (entry : ℕ → Answer) (n i : ℕ) → ((k : ℕ) → k < i + n → By (entry k)) → By (entriesFrom entry n i)
+unfolding entriesFrom
+by-entries entry zero i all = passing
+by-entries entry (suc n) i all = by-then (entry i) _ (all i (omega arith)) (λ p. by-entries entry n (i + 1) (λ k h. all k (omega arith)))
+
+module _ (s : List ℕ) (at tag : ℕ) (low : at ≤ 2000) where
+  by-field : (size : ℕ) → By (fieldAnswer s at tag size)
+  unfolding fieldAnswer named
+  by-field size = go (fieldAt s at)
     where
-      go : (a ≡ verdict.Passes) ⊎ ((numberOf a =? 0) ≡ false) → By limit (a and-then b)
-      go (inl e) = rw e (q e)
-      go (inr e) = rw e p
+      go : (f : Field) → By (named f at tag size)
+      go RunOut = record { number = omega arith; place = low }
+      go (Whole found claimed) = by-test ((found =? tag) && (claimed =? size)) (verdict.WrongTagOrLength at) (record { number = omega arith; place = low })
 
-  by-either : (b : Bool) (a a′ : Answer) → By limit a → By limit a′ → By limit (if b then a else a′)
-  by-either true a a′ p q = p
-  by-either false a a′ p q = q
+  by-row : (size n limit : ℕ) (entry : ℕ → ℕ) (called : ℕ → Answer) → ((k : ℕ) → k < n → By (called k)) →
+      By (rowAnswer s at tag size (below limit entry called) n)
+  unfolding rowAnswer below
+  by-row size n limit entry called all =
+      by-then (fieldAnswer s at tag size) _ (by-field size) (λ p. by-entries (below limit entry called) n 0 (λ k h. by-test _ (called k) (all k (omega arith))))
 
-  passing : By limit verdict.Passes
-  passing = record { number = omega arith; place = omega arith }
+by-word : (tag place : ℕ) → place ≤ 2000 → By (badWord tag place)
+unfolding badWord
+by-word tag place low = go (tag =? 0x05)
+  where
+    go : (b : Bool) → By (if b then verdict.HoldTooLong place else verdict.UnknownInputDelayed place)
+    go true = record { number = omega arith; place = low }
+    go false = record { number = omega arith; place = low }
 
-  module _ (at : ℕ) (low : at ≤ limit) where
-    by-field : (s : List ℕ) (tag size : ℕ) → By limit (fieldAnswer s at tag size)
-    unfolding fieldAnswer named
-    by-field s tag size = go (fieldAt s at)
-      where
-        go : (f : Field) → By limit (named f at tag size)
-        go RunOut = record { number = omega arith; place = low }
-        go (Whole found claimed) = by-either ((found =? tag) and (claimed =? size)) verdict.Passes (verdict.WrongTagOrLength at) passing (record { number = omega arith; place = low })
-
-    by-entry : (tag : ℕ) → By limit (badEntry tag at)
-    unfolding badEntry
-    by-entry tag =
-        by-either (tag =? 0x05) (verdict.HoldTooLong at) _ (record { number = omega arith; place = low })
-        (by-either (tag =? 0x06) (verdict.UnknownInputDelayed at) (verdict.EntryOutOfRange at)
-        (record { number = omega arith; place = low })
-        (record { number = omega arith; place = low }))
-
-  by-row : (s : List ℕ) (at tag size : ℕ) (place entry : ℕ → ℕ) (n bound : ℕ) → at ≤ limit → ((k : ℕ) → k < n → place k ≤ limit) →
-      By limit (rowAnswer s at tag size place entry n bound)
-  unfolding rowAnswer entriesBelow
-  by-row s at tag size place entry n bound low all =
-      by-then (fieldAnswer s at tag size) _ (by-field at low s tag size) (λ p. go (firstFrom (λ k. bound ≤? entry k) n 0 <? n) refl)
-    where
-      go : (b : Bool) → (firstFrom (λ k. bound ≤? entry k) n 0 <? n) ≡ b →
-          By limit (if b then badEntry tag (place (firstFrom (λ k. bound ≤? entry k) n 0)) else verdict.Passes)
-      go true e = by-entry (place (firstFrom (λ k. bound ≤? entry k) n 0)) (all _ (ltb-true (firstFrom (λ k. bound ≤? entry k) n 0) n e)) tag
-      go false e = passing
-
-by-head : (s : List ℕ) → By 2000 (headAnswer s)
-unfolding headAnswer
-by-head s =
-    by-then 2000 _ _ (by-field 2000 0 (omega arith) s 0x01 4) (λ p.
-    by-then 2000 _ _ (by-either 2000 (countsInRange (countsIn s)) _ _ (passing 2000) (record { number = omega arith; place = omega arith })) (λ q.
-    by-then 2000 _ _ (by-field 2000 7 (omega arith) s 0x02 4) (λ r.
-    by-either 2000 (inRange 1 60000 (boundIn s)) _ _ (passing 2000) (record { number = omega arith; place = omega arith }))))
-
-by-entries : (c : Counts) (s : List ℕ) → c .states ≤ 32 → c .inputs ≤ 32 → By 2000 (entriesAnswer c s)
-unfolding entriesAnswer
-by-entries c s few narrow =
+by-all : (c : Counts) (s : List ℕ) → c .states ≤ 32 → c .inputs ≤ 32 → By (entriesAnswer c s)
+unfolding entriesAnswer holdsAnswer
+by-all c s few narrow =
     let many : c .states * c .inputs ≤ 1024 = mul-le-mul few narrow in
-    by-then 2000 _ _ (by-row 2000 s _ _ _ _ _ _ _ (omega arith) (λ k h. omega arith)) (λ p.
-    by-then 2000 _ _ (by-row 2000 s _ _ _ _ _ _ _ (omega arith) (λ k h. omega arith)) (λ q.
-    by-then 2000 _ _ (by-row 2000 s _ _ _ _ _ _ _ (omega arith) (λ k h. omega arith)) (λ r.
-    by-then 2000 _ _ (by-row 2000 s _ _ _ _ _ _ _ (omega arith) (λ k h. omega arith)) (λ u.
-    by-either 2000 (tableEnd c <? length s) _ _ (record { number = omega arith; place = omega arith }) (passing 2000)))))
+    by-then _ _ (by-row s _ _ (omega arith) _ _ _ _ _ (λ k h. record { number = omega arith; place = omega arith })) (λ p.
+    by-then _ _ (by-row s _ _ (omega arith) _ _ _ _ _ (λ k h. record { number = omega arith; place = omega arith })) (λ q.
+    by-then _ _ (by-row s _ _ (omega arith) _ _ _ _ _ (λ k h. by-word _ _ (omega arith))) (λ r.
+    by-then _ _ (by-row s _ _ (omega arith) _ _ _ _ _ (λ k h. by-word _ _ (omega arith))) (λ u.
+    by-test _ _ (record { number = omega arith; place = omega arith })))))
 
-pub table-small : (s : List ℕ) → Small (numberOf (tableAnswer s)) (placeOf (tableAnswer s))
-unfolding tableAnswer
-table-small s =
-    small (tableAnswer s) (by-then 2000 (headAnswer s) _ (by-head s) (λ p.
-    let fit = head-stands s p .counts in
-    by-entries (countsIn s) s (fit .states .1) (fit .inputs .1)))
+by-table : (s : List ℕ) → By (tableAnswer s)
+unfolding tableAnswer countsAnswer boundAnswer
+by-table s =
+    by-then (countsAnswer s) _
+    (by-then _ _ (by-field s 0 0x01 (omega arith) 4) (λ p. by-test _ _ (record { number = omega arith; place = omega arith })))
+    (λ p.
+    let fit = counts-stand s p .1 in
+    by-then _ _
+    (by-then _ _ (by-field s 7 0x02 (omega arith) 4) (λ q. by-test _ _ (record { number = omega arith; place = omega arith })))
+    (λ q. by-all (countsIn s) s (fit .states .1) (fit .inputs .1)))
 
--- The checked table holds the table's answer.
-pub answer-is : (s : List ℕ) (c : Checked) → c ≡ checkedOf s → c .answer ≡ tableAnswer s
-unfolding checkedOf checkedAs
-answer-is s c is = rw is refl
+pub table-fits : (s : List ℕ) → Fits (replyOf (tableAnswer s))
+table-fits s =
+    let by = by-table s in
+    record { number = by .number; place = omega (arith, by .place) }

@@ -13,6 +13,7 @@ use Rattle.table.specs.declared.Answer.the-variants.{Passes}
 use Rattle.table.specs.Table.{outputOf, WellFormed}
 use Rattle.table.specs.Encode as tables
 use Rattle.table.specs.Check.{tableAnswer}
+use Rattle.table.proofs.Under.{under-passes, under-passed}
 use Rattle.records.specs.declared.Record.{Record}
 use Rattle.records.specs.declared.Record.the-variants.{Change, Poll, Test, Tick, End}
 use Rattle.records.specs.Form.{Form, journal}
@@ -122,31 +123,22 @@ accepts-exactly F valued tells t s bytes end ticks moves state output =
 
 -- ---- The entry
 
-pub no-number : (a : table.Answer) → (numberOf a =? 0) ≡ true → a ≡ Passes
-unfolding _and-then_
-no-number a e = first-passes a Passes (rw e)
-
 module _ (table s : List ℕ) where
   pub under : (t : Table) → WellFormed t → table ≡ tables.encode t → answerIn journal t s ≡ checkOf table s
-  under t ok is = table-passed table s (record { answer = Passes; table = t }) (sym (holds-that-table table t ok is)) refl
+  unfolding checkOf
+  under t ok is =
+      let h = holds-that-table table t ok is in
+      sym (under-passes TableRefused (λ x. answerIn journal x s) table (h .0) ∙ ap (λ x. answerIn journal x s) (h .1))
 
   table-passes : (end ticks moves state output : ℕ) → checkOf table s ≡ Accepted end ticks moves state output → tableAnswer table ≡ Passes
-  unfolding checkOf checkedOf checkedAs
-  table-passes end ticks moves state output e = go (numberOf (tableAnswer table) =? 0) refl _ e
-    where
-      go : (b : Bool) → (numberOf (tableAnswer table) =? 0) ≡ b → (x : Answer) →
-          (if b then x else TableRefused (tableAnswer table)) ≡ Accepted end ticks moves state output → tableAnswer table ≡ Passes
-      go true h x f = no-number (tableAnswer table) h
-      go false h x f = absurd (let z : _≡_ {A = ℕ} 0 1 = cc in omega arith)
+  unfolding checkOf
+  table-passes end ticks moves state output e = under-passed TableRefused (λ x. answerIn journal x s) table _ (λ a f. apart cc) e
 
 pub checks-exactly : ChecksExactly
 checks-exactly table s table-bytes bytes end ticks moves state output = (
   (λ e.
       let p = passes-exactly table table-bytes .0 (table-passes table s end ticks moves state output e) in
       let answer = under table s (p .0) (p .1) (p .2) ∙ e in
-      (p .0, p .1, p .2, accepts-exactly journal journal-recovers (p .0) s bytes end ticks moves state output .0 answer)),
-  (λ p. sym (under table s (p .0) (p .1) (p .2)) ∙ accepts-exactly journal journal-recovers (p .0) s bytes end ticks moves state output .1 (p .3)),
+      (p .0, p .1, p .2, accepted-run journal refl (p .0) s end ticks moves state output journal-recovers bytes answer)),
+  (λ p. sym (under table s (p .0) (p .1) (p .2)) ∙ run-accepted journal refl (p .0) s end ticks moves state output (p .3)),
 )
-
-pub determined : Determined
-determined table s a b p q = p ∙ sym q

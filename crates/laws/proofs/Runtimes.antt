@@ -16,6 +16,7 @@ use Rattle.table.specs.declared.Answer.the-variants.{Passes}
 use Rattle.table.specs.Table.{outputOf, WellFormed}
 use Rattle.table.specs.Encode as tables
 use Rattle.table.specs.Check.{tableAnswer}
+use Rattle.table.proofs.Under.{under-passes, under-either}
 use Rattle.records.specs.declared.Record.{Record}
 use Rattle.records.specs.declared.Record.the-variants.{Change, Poll, Test, Tick, End}
 use Rattle.records.specs.Record.{timeOf, isEnd, latest}
@@ -331,17 +332,17 @@ succeeds-exactly t good s bytes room size = (succeeded t good s bytes room size,
 -- ---- The entry
 
 module _ (table s : List ℕ) where
-  runs-under : (t : Table) → WellFormed t → table ≡ tables.encode t → runUnder t s ≡ runOf table s
-  runs-under t good is = table-passed table s (record { answer = Passes; table = t }) (sym (holds-that-table table t good is)) refl
+  runs-under : (t : Table) → WellFormed t → table ≡ tables.encode t → madeUnder t s ≡ runOf table s
+  unfolding runOf
+  runs-under t good is =
+      let h = holds-that-table table t good is in
+      sym (under-passes (λ a. refused (TableRefused a)) (λ x. madeUnder x s) table (h .0) ∙ ap (λ x. madeUnder x s) (h .1))
 
   table-passes : (room size : ℕ) → answerOf (runOf table s) room ≡ Written size → tableAnswer table ≡ Passes
-  unfolding runOf checkedOf checkedAs answerOf
-  table-passes room size e = go (numberOf (tableAnswer table) =? 0) refl _ e
-    where
-      go : (b : Bool) → (numberOf (tableAnswer table) =? 0) ≡ b → (x : Run) →
-          answerOf (if b then x else refused (TableRefused (tableAnswer table))) room ≡ Written size → tableAnswer table ≡ Passes
-      go true h x f = no-number (tableAnswer table) h
-      go false h x f = absurd (let z : _≡_ {A = ℕ} 0 1 = cc in omega arith)
+  unfolding runOf answerOf
+  table-passes room size =
+      under-either (λ a. refused (TableRefused a)) (λ x. madeUnder x s) table (λ m. answerOf m room ≡ Written size → tableAnswer table ≡ Passes)
+      (λ e f. e) (λ f. apart cc)
 
 pub runs-exactly : RunsExactly
 runs-exactly table s table-bytes bytes room size = (
@@ -355,42 +356,38 @@ runs-exactly table s table-bytes bytes room size = (
 )
 
 -- A journal that fits stands at the start of the buffer.
-in-front : (j before : List ℕ) (size : ℕ) → length j ≡ size → size ≤ length before → size ≤ 65536 → take size (bufferOf (journal j) before) ≡ j
-unfolding bufferOf
+in-front : (j before : List ℕ) (size : ℕ) → length j ≡ size → size ≤ length before → size ≤ longestJournal → take size (bufferOf (journal j) before) ≡ j
+unfolding bufferOf answerOf
 in-front j before size is fits within =
-    let short = le-ltb 65536 (length j) (omega arith) in
+    let short = le-ltb longestJournal (length j) (omega arith) in
     let has-room = le-ltb (length before) (length j) (omega arith) in
     rw (← is) (simp (short, has-room) (take-append-seam j (drop (length j) before)))
-
-module _ (table s : List ℕ) (bytes : Bytes s) (t : Table) (good : WellFormed t) (is : table ≡ tables.encode t) (j : List ℕ) where
-  only-journal : runUnder t s ≡ journal j → length j ≤ 65536 → OnlyJournal table s j
-  only-journal ran short =
-      let k = keeps-the-stimulus t good s bytes j ran in
-      let st = stimulus-of t s j (k .0) (k .1) (k .2) (k .3) in
-      let a = writes-accepted t good s (k .0) (map eventFor (k .1)) (k .2) st j ran short in
-      record {
-        under = t;
-        well-formed = good;
-        table-is = is;
-        input = k .0;
-        records = k .1;
-        end = k .2;
-        for = k .3;
-        moves = a .0;
-        state = a .1;
-        output = a .2;
-        accepted = sym (under table j t good is) ∙ a .3;
-        only = writes-the-only t s j ran;
-      }
 
 pub writes-the-journal : WritesTheJournal
 writes-the-journal table s before table-bytes bytes size e =
     let p = runs-exactly table s table-bytes bytes (length before) size .0 e in
     let w = p .3 in
-    let ran = writes (p .0) s (w .journal) (w .short) (w .accepted) in
-    let same = sym (runs-under table s (p .0) (p .1) (p .2)) ∙ ran in
+    let made = writes (p .0) s (w .journal) (w .short) (w .accepted) in
+    let same = sym (runs-under table s (p .0) (p .1) (p .2)) ∙ made in
     let front = ap (λ r. take size (bufferOf r before)) same ∙ in-front (w .journal) before size (w .size-is) (w .fits) (w .within) in
-    rw front (only-journal table s bytes (p .0) (p .1) (p .2) (w .journal) ran (omega (arith, w .size-is, w .within)))
-
-pub one-outcome : OneOutcome
-one-outcome table s before a b after after′ p q p′ q′ = (p ∙ sym p′, q ∙ sym q′)
+    let short : length (w .journal) ≤ longestJournal = omega (arith, w .size-is, w .within) in
+    rw front (only-journal table s bytes (p .0) (p .1) (p .2) (w .journal) made short)
+  where
+    only-journal : (table′ s′ : List ℕ) → Bytes s′ → (t : Table) → WellFormed t → table′ ≡ tables.encode t → (j : List ℕ) → madeUnder t s′ ≡ journal j →
+        length j ≤ longestJournal → OnlyJournal table′ s′ j
+    only-journal table′ s′ bytes′ t good is j made short =
+        let a = accepted-for t good s′ bytes′ j made short in
+        record {
+          under = t;
+          well-formed = good;
+          table-is = is;
+          input = a .input;
+          records = a .records;
+          end = a .end;
+          for = a .for;
+          moves = a .moves;
+          state = a .state;
+          output = a .output;
+          accepted = sym (under table′ j t good is) ∙ a .accepted;
+          only = writes-the-only t s′ j made;
+        }

@@ -15,7 +15,6 @@ use Rattle.records.specs.declared.Record.the-variants.{End}
 use Rattle.machine.specs.Machine.{start}
 use Rattle.machine.specs.Run.{Runs, ticksOf, movesOf}
 use Rattle.machine.specs.Walk.{inTable}
-use Rattle.journal.specs.declared.Answer.{Answer}
 use Rattle.journal.specs.declared.Answer.the-variants.{Accepted}
 use Rattle.records.specs.Form.{Form, journal}
 use Rattle.records.specs.Encode.{WrittenAs, Recovers}
@@ -52,7 +51,3 @@ abbrev pub ChecksExactly : Type 0
 ChecksExactly = (table s : List ℕ) → Bytes table → Bytes s → (end ticks moves state output : ℕ) →
     (checkOf table s ≡ Accepted end ticks moves state output)
     ↔ ((t : Table) × WellFormed t × (table ≡ tables.encode t) × AcceptedRun journal t s end ticks moves state output)
-
--- Two answers that the contract of `check` allows are equal.
-abbrev pub Determined : Type 0
-Determined = (table s : List ℕ) (a b : Answer) → a ≡ checkOf table s → b ≡ checkOf table s → a ≡ b

@@ -15,7 +15,6 @@ use Rattle.journal.specs.Check.{answerIn, checkOf}
 use Rattle.records.specs.Form as form
 use Rattle.records.specs.Form.{longestJournal, longestStimulus}
 use Rattle.records.specs.Encode.{encode, kept, WrittenAs}
-use Rattle.runtime.specs.declared.Answer.{Answer}
 use Rattle.runtime.specs.declared.Answer.the-variants.{Written, Refused}
 use Rattle.runtime.specs.Run.{journal, refused, madeUnder, runOf, answerOf, bufferOf}
 use Rattle.machine.specs.Run.{ticksOf}
@@ -111,9 +110,3 @@ pub record OnlyJournal (table s j : List ℕ) : Type 0 where
 abbrev pub WritesTheJournal : Type 0
 WritesTheJournal = (table s before : List ℕ) → Bytes table → Bytes s → (size : ℕ) → answerOf (runOf table s) (length before) ≡ Written size →
     OnlyJournal table s (take size (bufferOf (runOf table s) before))
-
--- Two outcomes that the contract of `run` allows are equal: the answers, and the buffers.
-abbrev pub OneOutcome : Type 0
-OneOutcome = (table s before : List ℕ) (a b : Answer) (after after′ : List ℕ) →
-    a ≡ answerOf (runOf table s) (length before) → after ≡ bufferOf (runOf table s) before →
-    b ≡ answerOf (runOf table s) (length before) → after′ ≡ bufferOf (runOf table s) before → (a ≡ b) × (after ≡ after′)

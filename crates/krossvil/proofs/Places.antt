@@ -1,0 +1,174 @@
+-- Numbers and places of the other refusals fit too. Of n records the last starts within 8 × n bytes.
+use mathlib.Core.Path.{_≡_, refl}
+use mathlib.Core.List.{List, [], _∷_}
+use mathlib.Core.Bool.{Bool, true, false, not}
+use Prim.Native.Nat.{ℕ, suc, _*_, _^_, _<_, _≤_}
+use native.Mathlib.Nat.{mul-le-mul}
+use native.Mathlib.Omega.{arith}
+use borrow.Author.Tests.{ltb-false, ltb-true}
+use lib.ListN.{length, getD}
+use Rattle.wire.specs.Choice.{_<?_, if_then_else_}
+use Rattle.wire.specs.Reply.{numberIn, placeIn, valuesIn}
+use Rattle.table.specs.declared.Table.{Table}
+use Rattle.table.specs.Table.{WellFormed}
+use Rattle.table.specs.Check.{tableAnswer, tableIn}
+use Rattle.table.proofs.Under.{under-either}
+use Rattle.table.proofs.WellFormed.{well-formed}
+use Rattle.records.specs.declared.Record.{Record}
+use Rattle.records.specs.declared.Refusal.{Refusal}
+use Rattle.records.specs.declared.Refusal.the-variants.{RunsOut, UnknownField, Misplaced, OutOfRange, TimeFalls, PastBound, WrongPhase, Unsettled, Differs}
+use Rattle.records.specs.declared.Opening.{Opening}
+use Rattle.records.specs.declared.Opening.the-variants as opening
+use Rattle.records.specs.Refusal.{numberOf}
+use Rattle.records.specs.Form.{Form, journal, stimulus, longestJournal}
+use Rattle.records.specs.Reading.{Items, item, done, broken, openingOf, itemsOf}
+use Rattle.records.proofs.Places.{Within, items-within}
+use Rattle.machine.specs.declared.Machine.{Machine}
+use Rattle.machine.specs.declared.Step.{Step}
+use Rattle.machine.specs.declared.Step.the-variants as step
+use Rattle.machine.specs.Machine.{start, step}
+use Rattle.machine.specs.Walk.{inTable, completed, Walk, ended, stopped, took, onwards, walk, Run, ran, tooLong, refused, ranFrom, recordsRun, opened, runOver}
+use Rattle.journal.specs.Answer as journal′
+use Rattle.journal.specs.Check.{answerOf, answerIn, checkOf}
+use Rattle.journal.specs.declared.Answer.the-variants as checked
+use Rattle.runtime.specs.declared.Answer as runtime′
+use Rattle.runtime.specs.declared.Answer.the-variants as made
+use Rattle.runtime.specs.Answer as runtime
+use Rattle.runtime.specs.Run as run
+use Rattle.runtime.specs.Run.{Made, madeOf, madeUnder, runOf}
+use Rattle.reaction.specs.declared.Answer.the-variants.{Reacts, TableRefused, UnknownState, UnknownInput, LeavesStates}
+use Rattle.reaction.specs.Answer as reaction
+use Rattle.reaction.specs.Reaction.{firstLeaving, reactionTime, nextSet, reactionOf, reactOf}
+use Rattle.krossvil.specs.Small.{Fits}
+use Rattle.krossvil.proofs.TablePlaces.{table-none, table-fits}
+
+refusal-small : (x : Refusal) → numberOf x ≤ 30
+refusal-small RunsOut = omega arith
+refusal-small UnknownField = omega arith
+refusal-small Misplaced = omega arith
+refusal-small OutOfRange = omega arith
+refusal-small TimeFalls = omega arith
+refusal-small PastBound = omega arith
+refusal-small WrongPhase = omega arith
+refusal-small Unsettled = omega arith
+refusal-small Differs = omega arith
+
+-- ---- The walk stops at the place of an item, or where the items break off
+
+abbrev StopsBy : ℕ → Walk → Type 0
+StopsBy limit (ended taken last) = Unit
+StopsBy limit (stopped refusal place) = place ≤ limit
+
+took-by : (limit : ℕ) (r : Record) (w : Walk) → StopsBy limit w → StopsBy limit (took r w)
+took-by limit r (ended taken last) h = tt
+took-by limit r (stopped refusal place) h = h
+
+walk-by : (limit : ℕ) (F : Form) (t : Table) (m : Machine) (items : Items) → Within limit items → StopsBy limit (walk F t m items)
+unfolding walk
+walk-by limit F t m (item place r rest) (low, more) = taken (step t m (completed F t m r)) (λ m′. walk-by limit F t m′ rest more)
+  where
+    taken : (a : Step) → ((m′ : Machine) → StopsBy limit (walk F t m′ rest)) → StopsBy limit (onwards a place (completed F t m r) (λ m′. walk F t m′ rest))
+    taken (step.Next m′) later = took-by limit (completed F t m r) (walk F t m′ rest) (later m′)
+    taken (step.Refused refusal) later = low
+walk-by limit F t m done w = tt
+walk-by limit F t m (broken refusal place) w = w .1
+
+abbrev RunBy : Run → Type 0
+RunBy (ran input taken last) = Unit
+RunBy tooLong = Unit
+RunBy (refused refusal place) = place ≤ 1000000
+
+run-by : (F : Form) → F .most ≤ longestJournal → (t : Table) (s : List ℕ) → RunBy (runOver F t s)
+unfolding runOver opened recordsRun itemsOf
+run-by F few t s = go (F .most <? length s) refl
+  where
+    walked : (input : ℕ) (w : Walk) → StopsBy 1000000 w → RunBy (ranFrom input w)
+    walked input (ended taken last) h = tt
+    walked input (stopped refusal place) h = h
+
+    begun : length s ≤ F .most → (o : Opening) → RunBy (opened F t s o)
+    begun short (opening.Refused refusal) = omega arith
+    begun short (opening.Input input) =
+        let items = itemsOf F (inTable F t) s in
+        let within = items-within F (inTable F t) s 1000000 (suc (length s)) 4 0 (omega arith) in
+        walked input (walk F t (start (t .initial) input) items) (walk-by 1000000 F t (start (t .initial) input) items within)
+
+    go : (b : Bool) → (F .most <? length s) ≡ b → RunBy (if b then tooLong else opened F t s (openingOf F (t .inputs) s))
+    go true e = tt
+    go false e = begun (ltb-false (F .most) (length s) e) (openingOf F (t .inputs) s)
+
+-- ---- The entries
+
+pub journal-fits : (table s : List ℕ) → Fits (journal′.replyOf (checkOf table s))
+unfolding checkOf
+journal-fits table s =
+    under-either checked.TableRefused (λ t. answerIn journal t s) table (λ a. Fits (journal′.replyOf a)) (λ e. under (tableIn table)) (table-fits table)
+  where
+    answered : (t : Table) (r : Run) → RunBy r → Fits (journal′.replyOf (answerOf t r))
+    unfolding answerOf
+    answered t (ran input taken last) h = record { number = omega arith; place = omega arith }
+    answered t tooLong h = record { number = omega arith; place = omega arith }
+    answered t (refused refusal place) h = record { number = refusal-small refusal; place = omega arith }
+
+    under : (t : Table) → Fits (journal′.replyOf (answerIn journal t s))
+    under t = answered t (runOver journal t s) (run-by journal (omega arith) t s)
+
+-- A journal's length fits too.
+abbrev RunFits : runtime′.Answer → Type 0
+RunFits a = Fits (runtime.replyOf a) × (getD (valuesIn (runtime.replyOf a)) 0 0 ≤ longestJournal)
+
+small : (a : runtime′.Answer) → numberIn (runtime.replyOf a) ≤ 30 → placeIn (runtime.replyOf a) ≤ 1000000 → valuesIn (runtime.replyOf a) ≡ [] → RunFits a
+small a n p none = (record { number = n; place = omega arith }, rw none (omega arith))
+
+abbrev Refuses : Made → Type 0
+Refuses (run.journal bytes) = Unit
+Refuses (run.refused a) = RunFits a
+
+made-fits : (t : Table) (s : List ℕ) → Refuses (madeUnder t s)
+unfolding madeOf
+made-fits t s = go (runOver stimulus t s) (run-by stimulus (omega arith) t s)
+  where
+    go : (r : Run) → RunBy r → Refuses (madeOf r)
+    go (ran input taken last) h = tt
+    go tooLong h = small made.TooLong (omega arith) (omega arith) refl
+    go (refused refusal place) h = small (made.Refused refusal place) (refusal-small refusal) h refl
+
+run-refuses : (table s : List ℕ) → Refuses (runOf table s)
+unfolding runOf
+run-refuses table s =
+    under-either (λ a. run.refused (made.TableRefused a)) (λ t. madeUnder t s) table Refuses (λ e. made-fits (tableIn table) s)
+    (table-fits table, rw (table-none (tableAnswer table)) (omega arith))
+
+pub run-fits : (table s : List ℕ) (room : ℕ) (a : runtime′.Answer) → a ≡ run.answerOf (runOf table s) room → RunFits a
+unfolding run.answerOf
+run-fits table s room a is = rw is (go (runOf table s) (run-refuses table s))
+  where
+    told : (bytes : List ℕ) (long : Bool) → (longestJournal <? length bytes) ≡ long → (short : Bool) →
+        RunFits (if long then made.JournalTooLong else if short then made.BufferTooShort else made.Written (length bytes))
+    told bytes true e short = small made.JournalTooLong (omega arith) (omega arith) refl
+    told bytes false e true = small made.BufferTooShort (omega arith) (omega arith) refl
+    told bytes false e false = (record { number = omega arith; place = omega arith }, ltb-false longestJournal (length bytes) e)
+
+    go : (m : Made) → Refuses m → RunFits (run.answerOf m room)
+    go (run.refused x) h = h
+    go (run.journal bytes) h = told bytes (longestJournal <? length bytes) refl (room <? length bytes)
+
+pub reaction-fits : (table : List ℕ) (P A : ℕ) → Fits (reaction.replyOf (reactOf table P A))
+unfolding reactOf
+reaction-fits table P A =
+    under-either TableRefused (λ t. reactionOf t P A) table (λ a. Fits (reaction.replyOf a)) (λ e. under (tableIn table) (well-formed table e)) (table-fits table)
+  where
+    under : (t : Table) → WellFormed t → Fits (reaction.replyOf (reactionOf t P A))
+    unfolding reactionOf
+    under t good = go (not (P <? 2 ^ t .states)) (not (A <? 2 ^ t .inputs)) (firstLeaving t P A <? t .states * t .inputs) refl
+      where
+        go : (b c d : Bool) → (firstLeaving t P A <? t .states * t .inputs) ≡ d →
+            Fits (reaction.replyOf (if b then UnknownState else if c then UnknownInput
+            else if d then LeavesStates (firstLeaving t P A) else Reacts (reactionTime t P A) (nextSet t P A)))
+        go true c d e = record { number = omega arith; place = omega arith }
+        go false true d e = record { number = omega arith; place = omega arith }
+        go false false true e =
+            let many : t .states * t .inputs ≤ 1024 = mul-le-mul (good .states .1) (good .inputs .1) in
+            let low = ltb-true (firstLeaving t P A) (t .states * t .inputs) e in
+            record { number = omega arith; place = omega arith }
+        go false false false e = record { number = omega arith; place = omega arith }

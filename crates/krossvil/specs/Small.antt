@@ -1,0 +1,7 @@
+-- What fits into one number of 64 bits: a helper of contracts, not of document 01.
+use Prim.Native.Nat.{ℕ, _^_, _<_, _≤_}
+use Rattle.wire.specs.Reply.{Reply, numberIn, placeIn}
+
+pub record Fits (reply : Reply) : Type 0 where
+  pub number : numberIn reply ≤ 30
+  pub place : placeIn reply < 2 ^ 32
