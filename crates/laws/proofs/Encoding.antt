@@ -2,7 +2,7 @@
 use mathlib.Core.Path.{_≡_, refl, sym, ap, _∙_}
 use mathlib.Core.List.{List, [], _∷_, _++_, append-assoc, append-nil}
 use mathlib.Core.Bool.{true}
-use Prim.Native.Nat.{ℕ, _-_, _*_, _/_, _%_, _^_, _<_, _≤_}
+use Prim.Native.Nat.{ℕ, _+_, _-_, _*_, _/_, _%_, _^_, _<_, _≤_}
 use native.Mathlib.Nat.{mul-le-mul, mod-lt, div-add-mod', div-lt-iff-lt-mul}
 use native.Mathlib.Omega.{arith}
 use borrow.Author.Tests.{le-leb, lt-ltb}
@@ -12,16 +12,16 @@ use Rattle.wire.specs.Encode.{Bytes, bytes32, field}
 use Rattle.wire.proofs.Laws.{WholeAt}
 use Rattle.wire.proofs.Bytes.{number-written, field-written, number-read, field-read}
 use Rattle.sets.proofs.Members.{below-limit}
-use Rattle.table.specs.declared.Answer.the-variants.{Passes}
+use Rattle.table.specs.declared.Answer.the-variants.{Passes, CountOutOfRange, BoundOutOfRange, BytesAfter}
 use Rattle.table.specs.declared.Counts.{Counts}
 use Rattle.table.specs.declared.Table.{Table}
 use Rattle.table.specs.Entries.{values}
-use Rattle.table.specs.Table.{delayedOf, WellFormed}
+use Rattle.table.specs.Table.{largestBound, longestHold, holdOf, delayedOf, WellFormed}
 use Rattle.table.specs.Encode.{encode, words}
-use Rattle.table.specs.Check.{bytePlace, wordPlace, countsIn, boundIn, inRange, countsInRange, nextField, holdField, delayedField, tableEnd}
-use Rattle.table.specs.Check.{headAnswer, entriesAnswer, tableAnswer, tableOf}
-use Rattle.table.proofs.Laws.{first-passes, rest-passes, goes-on, head-stands, head-passes, entries-pass}
-use Rattle.table.proofs.WellFormed.{entries-stand}
+use Rattle.table.specs.Check.{bytesAnswer, wordsAnswer, countsIn, boundIn, inRange, countsInRange, nextField, holdField, delayedField, tableEnd}
+use Rattle.table.specs.Check.{countsAnswer, boundAnswer, holdsAnswer, entriesAnswer, tableAnswer, tableOf, tableIn}
+use Rattle.table.proofs.Answers.{holds, goes-on}
+use Rattle.table.proofs.Stands.{table-stands}
 use Rattle.laws.proofs.Rows.{bytes-read, byte-row-read, word-row-read}
 use Rattle.laws.proofs.Rows.{bytes-written, words-written, field-passes, row-passes, row-kept}
 
@@ -35,19 +35,19 @@ module _ (s : List ℕ) (bytes : Bytes s) where
   bound-read : WholeAt s 7 0x02 4 → drop 7 s ≡ field 0x02 (bytes32 (boundIn s)) ++ drop 14 s
   bound-read whole = rw (← number-read s bytes 10 (whole .fits)) (field-read s bytes 7 0x02 4 whole)
 
-pub passes-encodes : (s : List ℕ) → Bytes s → tableAnswer s ≡ Passes → s ≡ encode (tableOf (countsIn s) s)
-unfolding tableAnswer tableOf encode
+pub passes-encodes : (s : List ℕ) → Bytes s → tableAnswer s ≡ Passes → s ≡ encode (tableIn s)
+unfolding tableOf encode
 passes-encodes s bytes e =
     let c = countsIn s in
-    let head = head-stands s (first-passes (headAnswer s) _ e) in
-    let rows = entries-stand c s (rest-passes (headAnswer s) (entriesAnswer c s) e) in
-    let f₁ = counts-read s bytes (head .counts-field) in
-    let f₂ = bound-read s bytes (head .bound-field) in
-    let f₃ = byte-row-read s bytes 14 0x03 (c .states) (c .outputs) 32 (rows .outputs) in
-    let f₄ = byte-row-read s bytes (nextField c) 0x04 (c .states * c .inputs) (c .states) 1024 (rows .next) in
-    let f₅ = word-row-read s bytes (holdField c) 0x05 (c .states) 3600001 32 (rows .holds) in
-    let f₆ = word-row-read s bytes (delayedField c) 0x06 (c .states) (2 ^ c .inputs) 32 (rows .delayed) in
-    let end : drop (tableEnd c) s ≡ [] = drop-of-length-le s (rows .ends) in
+    let known = table-stands s e in
+    let f₁ = counts-read s bytes (known .counts-field) in
+    let f₂ = bound-read s bytes (known .bound-field) in
+    let f₃ = byte-row-read s bytes 14 0x03 (c .states) (c .outputs) 32 (known .outputs) in
+    let f₄ = byte-row-read s bytes (nextField c) 0x04 (c .states * c .inputs) (c .states) 1024 (known .next) in
+    let f₅ = word-row-read s bytes (holdField c) 0x05 (c .states) (longestHold + 1) 32 (known .holds) in
+    let f₆ = word-row-read s bytes (delayedField c) 0x06 (c .states) (2 ^ c .inputs) 32 (known .delayed) in
+    let short : length s ≤ tableEnd c = omega (arith, known .ends) in
+    let end : drop (tableEnd c) s ≡ [] = drop-of-length-le s short in
     f₁ ∙ rw (f₂, f₃, f₄, f₅, f₆, end) (simp (append-assoc, append-nil))
 
 -- ---- An encoding
@@ -71,12 +71,10 @@ module _ (t : Table) where
   fields-written = simp (append-assoc, append-nil)
 
 between : (low high x : ℕ) → (low ≤ x) × (x ≤ high) → inRange low high x ≡ true
-unfolding inRange
 between low high x h = rw (le-leb low x (h .0), le-leb x high (h .1))
 
 module _ (t : Table) (ok : WellFormed t) where
   counts-pass : countsInRange (countsOf t) ≡ true
-  unfolding countsInRange
   counts-pass =
       rw (between 1 32 (t .states) (ok .states), between 1 32 (t .inputs) (ok .inputs), between 1 32 (t .outputs) (ok .outputs))
       (lt-ltb (t .initial) (t .states) (ok .initial))
@@ -87,8 +85,8 @@ module _ (t : Table) (ok : WellFormed t) where
       rw (div-add-mod' k (t .inputs)) at (ok .next (k / t .inputs) (k % t .inputs) (div-lt-iff-lt-mul some .1 h) (mod-lt k some))
 
 -- Of field i: fᵢ, it stands as written; pᵢ, the check lets it pass; kᵢ, its array is kept.
-pub encoding-passes : (t : Table) → WellFormed t → (tableAnswer (encode t) ≡ Passes) × (tableOf (countsIn (encode t)) (encode t) ≡ t)
-unfolding tableAnswer tableOf
+pub encoding-passes : (t : Table) → WellFormed t → (tableAnswer (encode t) ≡ Passes) × (tableIn (encode t) ≡ t)
+unfolding tableAnswer countsAnswer boundAnswer entriesAnswer holdsAnswer tableOf
 encoding-passes t ok =
     let s = encode t in
     let c = countsOf t in
@@ -102,20 +100,24 @@ encoding-passes t ok =
     let f₅ = words-written s _ (t .hold) (holdField c) 0x05 q (rw (ok .hold-uses .places) few) (omega arith) (f₄ .ends) in
     let f₆ = words-written s _ (t .delayed) (delayedField c) 0x06 q (rw (ok .delayed-uses .places) few) (omega arith) (f₅ .ends) in
     let bound : boundIn s ≡ t .bound = number-written s _ 10 (t .bound) (f₂ .holds) in
-    let counts : countsInRange (countsIn s) ≡ true = rw (counts-written t) (counts-pass t ok) in
-    let bounded : inRange 1 60000 (boundIn s) ≡ true = rw bound (between 1 60000 (t .bound) (ok .bound)) in
-    let head = head-passes s (field-passes s 0 0x01 4 (f₁ .whole)) counts (field-passes s 7 0x02 4 (f₂ .whole)) bounded in
-    let p₃ = row-passes f₃ (bytePlace 14) (t .outputs) (ok .output) in
-    let p₄ = row-passes f₄ (bytePlace (nextField c)) q (next-below t ok) in
-    let p₅ = row-passes f₅ (wordPlace (holdField c)) 3600001 (λ k h. let low = ok .hold k h in omega arith) in
-    let p₆ = row-passes f₆ (wordPlace (delayedField c)) (2 ^ t .inputs) (λ k h. below-limit (delayedOf t k) (t .inputs) (λ i. ok .delayed k i h)) in
+    let counts : countsInRange (countsIn s) ≡ true = ap countsInRange (counts-written t) ∙ counts-pass t ok in
+    let bounded : inRange 1 largestBound (boundIn s) ≡ true = rw bound (between 1 largestBound (t .bound) (ok .bound)) in
+    let p₁ : Passes ≡ countsAnswer s = goes-on (field-passes s 0 0x01 4 (f₁ .whole)) (sym (holds (CountOutOfRange 0) counts)) in
+    let p₂ : Passes ≡ boundAnswer s = goes-on (field-passes s 7 0x02 4 (f₂ .whole)) (sym (holds (BoundOutOfRange 7) bounded)) in
+    let p₃ : bytesAnswer s 14 0x03 q (t .outputs) ≡ Passes = row-passes f₃ _ _ (ok .output) in
+    let p₄ : bytesAnswer s (nextField c) 0x04 (q * t .inputs) q ≡ Passes = row-passes f₄ _ _ (next-below t ok) in
+    let short : (k : ℕ) → k < q → holdOf t k < longestHold + 1 = λ k h. let low = ok .hold k h in omega arith in
+    let p₅ : wordsAnswer s (holdField c) 0x05 q (longestHold + 1) ≡ Passes = row-passes f₅ _ _ short in
+    let known : (k : ℕ) → k < q → delayedOf t k < 2 ^ t .inputs = λ k h. below-limit _ (t .inputs) (λ i. ok .delayed k i h) in
+    let p₆ : wordsAnswer s (delayedField c) 0x06 q (2 ^ t .inputs) ≡ Passes = row-passes f₆ _ _ known in
     let end : length s - tableEnd c ≡ 0 = sym (length-drop (tableEnd c) s) ∙ ap length (f₆ .ends) in
-    let entries = entries-pass c s p₃ p₄ p₅ p₆ (omega arith) in
+    let p₇ = holds (BytesAfter (tableEnd c)) (le-leb (length s) (tableEnd c) (omega arith)) in
+    let entries : Passes ≡ entriesAnswer c s = goes-on p₃ (goes-on p₄ (goes-on p₅ (goes-on p₆ (sym p₇)))) in
     let k₃ = row-kept f₃ 32 few (ok .output-uses) in
     let k₄ = row-kept f₄ 1024 many (ok .next-uses) in
     let k₅ = row-kept f₅ 32 few (ok .hold-uses) in
     let k₆ = row-kept f₆ 32 few (ok .delayed-uses) in
     let kept : tableOf c s ≡ t = rw (bound, k₃, k₄, k₅, k₆) in (
-      sym (goes-on (headAnswer s) _ (sym head)) ∙ ap (λ d. entriesAnswer d s) (counts-written t) ∙ sym entries,
+      sym (goes-on (sym p₁) (goes-on (sym p₂) (entries ∙ sym (ap (λ d. entriesAnswer d s) (counts-written t))))),
       ap (λ d. tableOf d s) (counts-written t) ∙ kept,
     )

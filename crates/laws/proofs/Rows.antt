@@ -1,27 +1,27 @@
 -- A field of entries, written and read: entries of one byte, and entries of four.
 use mathlib.Core.Path.{_≡_, refl, sym, _∙_}
 use mathlib.Core.List.{List, [], _∷_, _++_}
-use mathlib.Core.Bool.{Bool, true, false}
+use mathlib.Core.Bool.{Bool, true, false, _&&_}
 use Prim.Native.Nat.{ℕ, zero, suc, _+_, _-_, _*_, _<_, _≤_}
 use native.Mathlib.Nat.{not-suc-le-zero}
 use native.Mathlib.Omega.{arith}
-use borrow.Author.Tests.{le-ltb, lt-leb, ltb-true, ltb-false}
+use borrow.Author.Tests.{ltb-true, ltb-false, eq-eqb}
 use lib.ListN.{length, getD, take, drop, List·getD-append}
 use lib.Seq.{ext-getD, getD-take, length-take-le, take-add, drop-drop, take-at}
-use Rattle.wire.specs.Choice.{_<?_, _≤?_}
+use Rattle.wire.specs.Choice.{_<?_, _=?_}
 use Rattle.wire.specs.Field.{byteAt, number32At}
 use Rattle.wire.specs.Encode.{Bytes, field}
 use Rattle.wire.proofs.Laws.{WholeAt, whole-is}
 use Rattle.wire.proofs.Bytes.{byte-written, rest-written, number-written, field-written, byte-read, number-read, field-read}
+use Rattle.table.specs.declared.Answer.{Answer}
 use Rattle.table.specs.declared.Answer.the-variants.{Passes}
-use Rattle.table.specs.Entries.{values, firstFrom, zeros, padded}
-use Rattle.table.specs.Check.{fieldAnswer, entriesBelow, rowAnswer, byteEntry, wordEntry, bytesAnswer, wordsAnswer}
+use Rattle.table.specs.Entries.{entriesFrom, values, filled, zeros}
+use Rattle.table.specs.Check.{fieldAnswer, rowAnswer, below, byteEntry, wordEntry, bytesAnswer, wordsAnswer}
 use Rattle.table.specs.Table.{Uses}
 use Rattle.table.specs.Encode.{words}
-use Rattle.table.proofs.Laws.{stands, goes-on}
-use Rattle.table.proofs.Values.{length-values}
-use Rattle.table.proofs.Rows.{row-stands}
-use Rattle.table.proofs.WellFormed.{getD-padded, padded-uses}
+use Rattle.table.proofs.Answers.{holds, goes-on}
+use Rattle.table.proofs.Rows.{is-whole, row-stands, is-below}
+use Rattle.table.proofs.Values.{length-values, getD-filled, filled-uses}
 
 -- ---- Entries in bytes
 
@@ -89,15 +89,14 @@ module _ (s rest array : List ℕ) (at tag n : ℕ) (room : n ≤ length array) 
       }
 
 pub field-passes : (s : List ℕ) (at tag size : ℕ) → WholeAt s at tag size → fieldAnswer s at tag size ≡ Passes
-field-passes s at tag size whole = sym (stands s at tag size _ (whole-is s at tag size whole) tag size refl refl refl)
+field-passes s at tag size whole =
+    let same : ((tag =? tag) && (size =? size)) ≡ true = rw (eq-eqb tag tag refl, eq-eqb size size refl) in
+    sym (is-whole s at tag size _ (whole-is s at tag size whole) tag size refl Passes (sym (holds _ same)))
 
--- A search that finds nothing.
-first-past : (bad : ℕ → Bool) (n i : ℕ) → ((k : ℕ) → k < i + n → bad k ≡ false) → firstFrom bad n i ≡ i + n
-unfolding firstFrom
-first-past bad zero i h = omega arith
-first-past bad (suc n) i h =
-    let past : firstFrom bad n (i + 1) ≡ (i + 1) + n = first-past bad n (i + 1) (λ k l. h k (omega arith)) in
-    rw (h i (omega arith)) (omega arith)
+each-pass : (entry : ℕ → Answer) (n i : ℕ) → ((k : ℕ) → k < i + n → entry k ≡ Passes) → Passes ≡ entriesFrom entry n i
+unfolding entriesFrom
+each-pass entry zero i h = refl
+each-pass entry (suc n) i h = goes-on (h i (omega arith)) (each-pass entry n (i + 1) (λ k l. h k (omega arith)))
 
 same-array : (n size : ℕ) (a b : List ℕ) → Uses n size a → Uses n size b → ((k : ℕ) → k < n → getD a k 0 ≡ getD b k 0) → a ≡ b
 same-array n size a b in-a in-b same = ext-getD 0 a b (in-a .places ∙ sym (in-b .places)) (λ k l. each k (k <? n) refl)
@@ -107,32 +106,33 @@ same-array n size a b in-a in-b same = ext-getD 0 a b (in-a .places ∙ sym (in-
     each k false e = in-a .rest k (ltb-false k n e) ∙ sym (in-b .rest k (ltb-false k n e))
 
 module _ {s rest array : List ℕ} {at tag size n : ℕ} {entry : ℕ → ℕ} (row : RowWritten s rest array at tag size n entry) where
-  pub row-passes : (place : ℕ → ℕ) (limit : ℕ) → ((k : ℕ) → k < n → getD array k 0 < limit) → rowAnswer s at tag size place entry n limit ≡ Passes
-  unfolding rowAnswer entriesBelow
-  row-passes place limit below =
-      let none : firstFrom (λ k. limit ≤? entry k) n 0 ≡ 0 + n =
-      first-past _ n 0 (λ k l. let h : k < n = omega arith in lt-leb limit (entry k) (rw (row .entries k h) (below k h)))
+  pub row-passes : (limit : ℕ) (called : ℕ → Answer) → ((k : ℕ) → k < n → getD array k 0 < limit) →
+      rowAnswer s at tag size (below limit entry called) n ≡ Passes
+  unfolding rowAnswer
+  row-passes limit called low =
+      let each : (k : ℕ) → k < 0 + n → below limit entry called k ≡ Passes =
+      λ k l. let h : k < n = omega arith in is-below limit entry called k (rw (row .entries k h) (low k h))
       in
-      rw (← goes-on (fieldAnswer s at tag size) _ (field-passes s at tag size (row .whole)), none, le-ltb (0 + n) n (omega arith))
+      sym (goes-on (field-passes s at tag size (row .whole)) (each-pass _ n 0 each))
 
-  pub row-kept : (places : ℕ) → n ≤ places → Uses n places array → padded places (values entry n) ≡ array
+  pub row-kept : (places : ℕ) → n ≤ places → Uses n places array → filled entry n (zeros places) ≡ array
   row-kept places fits uses =
-      same-array n places _ array (padded-uses entry n places fits) uses (λ k h. getD-padded entry n places fits k h ∙ row .entries k h)
+      same-array n places _ array (filled-uses entry n places fits) uses (λ k h. getD-filled entry n places fits k h ∙ row .entries k h)
 
 -- ---- A row that is read
 
-front : (entry : ℕ → ℕ) (n places : ℕ) → take n (padded places (values entry n)) ≡ values entry n
-front entry n places = take-at (values entry n) (zeros (places - length (values entry n))) n (length-values entry n)
+front : (entry : ℕ → ℕ) (n places : ℕ) → take n (filled entry n (zeros places)) ≡ values entry n
+front entry n places = take-at (values entry n) (drop n (zeros places)) n (length-values entry n)
 
 module _ (s : List ℕ) (bytes : Bytes s) (at tag n limit places : ℕ) where
   pub byte-row-read : bytesAnswer s at tag n limit ≡ Passes →
-      drop at s ≡ field tag (take n (padded places (values (byteEntry s at) n))) ++ drop (at + 3 + n) s
+      drop at s ≡ field tag (take n (filled (byteEntry s at) n (zeros places))) ++ drop (at + 3 + n) s
   byte-row-read passes =
-      let whole = row-stands s at tag n _ (byteEntry s at) n limit passes in
+      let whole = row-stands s at tag n _ n passes in
       rw (front (byteEntry s at) n places, ← bytes-read s (at + 3) n (whole .fits)) (field-read s bytes at tag n whole)
 
   pub word-row-read : wordsAnswer s at tag n limit ≡ Passes →
-      drop at s ≡ field tag (words (take n (padded places (values (wordEntry s at) n)))) ++ drop (at + 3 + 4 * n) s
+      drop at s ≡ field tag (words (take n (filled (wordEntry s at) n (zeros places)))) ++ drop (at + 3 + 4 * n) s
   word-row-read passes =
-      let whole = row-stands s at tag (4 * n) _ (wordEntry s at) n limit passes in
+      let whole = row-stands s at tag (4 * n) _ n passes in
       rw (front (wordEntry s at) n places, ← words-read s (at + 3) bytes n (whole .fits)) (field-read s bytes at tag (4 * n) whole)

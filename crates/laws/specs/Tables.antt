@@ -6,19 +6,14 @@ use Prim.Native.Nat.{ℕ}
 use Rattle.wire.specs.Encode.{Bytes}
 use Rattle.table.specs.declared.Answer.the-variants.{Passes}
 use Rattle.table.specs.declared.Table.{Table}
-use Rattle.table.specs.declared.Checked.{Checked}
 use Rattle.table.specs.Table.{WellFormed}
 use Rattle.table.specs.Encode.{encode}
-use Rattle.table.specs.Check.{tableAnswer, checkedOf}
+use Rattle.table.specs.Check.{tableAnswer, tableIn}
 
 -- The bytes that pass are exactly the encodings of well-formed tables.
 abbrev pub PassesExactly : Type 0
 PassesExactly = (s : List ℕ) → Bytes s → (tableAnswer s ≡ Passes) ↔ ((t : Table) × WellFormed t × (s ≡ encode t))
 
--- From a well-formed table's encoding the check gives back that table.
+-- A well-formed table's encoding passes, and that table is read from it.
 abbrev pub HoldsThatTable : Type 0
-HoldsThatTable = (s : List ℕ) (t : Table) → WellFormed t → s ≡ encode t → checkedOf s ≡ record { answer = Passes; table = t }
-
--- Two answers that the contract of `check` allows are equal.
-abbrev pub Determined : Type 0
-Determined = (s : List ℕ) (a b : Checked) → a ≡ checkedOf s → b ≡ checkedOf s → a ≡ b
+HoldsThatTable = (s : List ℕ) (t : Table) → WellFormed t → s ≡ encode t → (tableAnswer s ≡ Passes) × (tableIn s ≡ t)

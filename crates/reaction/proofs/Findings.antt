@@ -13,7 +13,7 @@ use Rattle.wire.proofs.Choice.{never, both, and-both}
 use Rattle.sets.specs.Sets.{member, meets, Difference}
 use Rattle.sets.proofs.Members.{some-below}
 use Rattle.table.specs.declared.Table.{Table}
-use Rattle.table.specs.Table.{nextOf, holdOf, delayedOf, delays}
+use Rattle.table.specs.Table.{largestBound, longestHold, nextOf, holdOf, delayedOf, delays}
 use Rattle.reaction.specs.declared.Answer.the-variants.{Reacts, LeavesStates}
 use Rattle.reaction.specs.Reaction.{weightOf, weight, reactionOf}
 use Rattle.reaction.specs.Meaning.{Pairs, NextStates, Slowest, Reaction, Leaving}
@@ -85,10 +85,10 @@ module _ {t : Table} {P A : ℕ} (all : AllExist t P A) where
       (some-below (t .inputs) 32 (λ a. member A a and delays t p a) (all .table .inputs .1) (λ a h. all .inputs a (both (member A a) _ h .0)))
 
   module _ (target outside : ℕ) (rest : Difference P target outside) where
-    holds-fit : (p : ℕ) → member outside p ≡ true → holdOf t p ≤ 3600000
+    holds-fit : (p : ℕ) → member outside p ≡ true → holdOf t p ≤ longestHold
     holds-fit p m = all .table .hold p (all .states p (both (member P p) _ (sym (rest p) ∙ m) .0))
 
-    pub weights-fit : (t .bound ≤ 60000) × ((p : ℕ) → member outside p ≡ true → holdOf t p ≤ 3600000)
+    pub weights-fit : (t .bound ≤ largestBound) × ((p : ℕ) → member outside p ≡ true → holdOf t p ≤ longestHold)
     weights-fit = (all .table .bound .1, holds-fit)
 
     module _ {slowest : ℕ} (found : IsLargest outside (weightIn (t .hold) (t .delayed) (t .bound) A) slowest) where

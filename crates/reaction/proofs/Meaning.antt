@@ -15,10 +15,10 @@ use Rattle.sets.proofs.Members.{same-members, member-below, below-limit, member
 use Rattle.sets.proofs.Members.{largest-covers, largest-reached, Reaching}
 use Rattle.table.specs.declared.Table.{Table}
 use Rattle.table.specs.Table.{nextOf, WellFormed}
-use Rattle.table.proofs.Values.{before-first, found-bad}
 use Rattle.reaction.specs.declared.Answer.{Answer}
 use Rattle.reaction.specs.declared.Answer.the-variants.{Reacts, TableRefused, UnknownState, UnknownInput, LeavesStates}
 use Rattle.reaction.specs.Reaction.{nextSet, weight, reactionTime, leavesAt, firstLeaving, reactionOf}
+use Rattle.reaction.proofs.First.{before-first, found-first}
 use Rattle.reaction.specs.Meaning.{Known, Unknown, Pairs, Comes, NextStates, Slowest, Reaction, Leaving, Means}
 
 -- ---- 9
@@ -59,7 +59,7 @@ module _ {t : Table} {P A : ℕ} (all : AllExist t P A) where
 
   first-leaves : firstLeaving t P A < t .states * t .inputs → leavesAt t P A (firstLeaving t P A) ≡ true
   unfolding firstLeaving
-  first-leaves h = found-bad (leavesAt t P A) (t .states * t .inputs) 0 (omega arith)
+  first-leaves h = found-first (leavesAt t P A) (t .states * t .inputs) 0 (omega arith)
 
   found : (firstLeaving t P A <? t .states * t .inputs) ≡ true → Leaving t P A (firstLeaving t P A)
   found e =

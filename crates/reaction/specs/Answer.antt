@@ -1,19 +1,13 @@
--- The numbers and places of document 01, "Numbers given back when something is turned down", for the calculator's answers.
-use Prim.Native.Nat.{ℕ}
+-- Document 01's reply for each of the calculator's answers.
+use mathlib.Core.List.{[], _∷_}
+use Rattle.wire.specs.Reply.{Reply, gives, refuses}
 use Rattle.table.specs.Answer as table
 use Rattle.reaction.specs.declared.Answer.{Answer}
 use Rattle.reaction.specs.declared.Answer.the-variants.{Reacts, TableRefused, UnknownState, UnknownInput, LeavesStates}
 
-abbrev pub numberOf : Answer → ℕ
-numberOf (Reacts time target) = 0
-numberOf (TableRefused refusal) = table.numberOf refusal
-numberOf UnknownState = 9
-numberOf UnknownInput = 9
-numberOf (LeavesStates at) = 10
-
-abbrev pub placeOf : Answer → ℕ
-placeOf (Reacts time target) = 0
-placeOf (TableRefused refusal) = table.placeOf refusal
-placeOf UnknownState = 0
-placeOf UnknownInput = 1
-placeOf (LeavesStates at) = at
+abbrev pub replyOf : Answer → Reply
+replyOf (Reacts time target) = gives (time ∷ target ∷ [])
+replyOf (TableRefused refusal) = table.replyOf refusal
+replyOf UnknownState = refuses 9 0
+replyOf UnknownInput = refuses 9 1
+replyOf (LeavesStates at) = refuses 10 at

@@ -1,14 +1,12 @@
 -- The reaction calculator: document 01, "Reaction times". P is a set of states and A a set of inputs, each a number.
 use mathlib.Core.List.{List}
 use mathlib.Core.Bool.{Bool, not}
-use Prim.Native.Nat.{ℕ, _+_, _*_, _/_, _%_, _^_}
+use Prim.Native.Nat.{ℕ, zero, suc, _+_, _*_, _/_, _%_, _^_}
 use Rattle.wire.specs.Choice.{_<?_, _=?_, _and_, if_then_else_}
 use Rattle.sets.specs.Sets.{member, some, setOf, largest}
 use Rattle.table.specs.declared.Table.{Table}
 use Rattle.table.specs.Table.{nextOf, holdOf, delays}
-use Rattle.table.specs.Entries.{firstFrom}
-use Rattle.table.specs.Answer as table
-use Rattle.table.specs.Check.{countsIn, tableAnswer, tableOf}
+use Rattle.table.specs.Under.{underTable}
 use Rattle.reaction.specs.declared.Answer.{Answer}
 use Rattle.reaction.specs.declared.Answer.the-variants.{Reacts, TableRefused, UnknownState, UnknownInput, LeavesStates}
 
@@ -39,6 +37,11 @@ leavesAt t P A k =
     let a = k % t .inputs in
     member P p and member A a and not (member P (nextOf t p a))
 
+-- The first of i, i + 1, .., i + n - 1 that passes the test, or i + n.
+unfoldable pub firstFrom : (ℕ → Bool) → ℕ → ℕ → ℕ
+firstFrom test zero i = i
+firstFrom test (suc n) i = if test i then i else firstFrom test n (i + 1)
+
 -- The smallest such k, or Q × I.
 unfoldable pub firstLeaving : Table → ℕ → ℕ → ℕ
 firstLeaving t P A = firstFrom (leavesAt t P A) (t .states * t .inputs) 0
@@ -51,8 +54,6 @@ reactionOf t P A =
     else if firstLeaving t P A <? t .states * t .inputs then LeavesStates (firstLeaving t P A)
     else Reacts (reactionTime t P A) (nextSet t P A)
 
--- A table refusal comes before all others.
+-- On the bytes of a table.
 unfoldable pub reactOf : List ℕ → ℕ → ℕ → Answer
-reactOf s P A =
-    if table.numberOf (tableAnswer s) =? 0 then reactionOf (tableOf (countsIn s) s) P A
-    else TableRefused (tableAnswer s)
+reactOf s P A = underTable TableRefused (λ t. reactionOf t P A) s

@@ -3,9 +3,10 @@ ghost use mathlib.Core.Path.{_≡_};
 ghost use mathlib.Core.Bool.{true};
 ghost use Prim.Native.Nat.{ℕ, _≤_, max};
 ghost use lib.ListN.{getD};
+ghost use Rattle.wire.specs.Reply.{numberIn, placeIn};
 ghost use Rattle.sets.specs.Sets.{member};
-ghost use Rattle.table.specs.Table.{WellFormed};
-ghost use Rattle.reaction.specs.Answer.{numberOf, placeOf};
+ghost use Rattle.table.specs.Table.{largestBound, longestHold, WellFormed};
+ghost use Rattle.reaction.specs.Answer.{replyOf};
 ghost use Rattle.reaction.specs.Reaction.{weightOf, reactionOf, reactOf};
 ghost use Rattle.reaction.specs.Meaning.{Pairs};
 ghost use Rattle.reaction.specs.Walks.{inRows, Walkable, From, Finds, weightIn, IsLargest};
@@ -32,7 +33,7 @@ pub enum Answer {
 impl Answer {
     // The number that document 01 gives to the refusal; 0 where there is none.
     pub fn number(self) -> u32
-        ensures { λ r. ⌜ r ≡ numberOf self ⌝ }
+        ensures { λ r. ⌜ r ≡ numberIn (replyOf self) ⌝ }
     {
         match self {
             Answer::Reacts { .. } => 0,
@@ -44,7 +45,7 @@ impl Answer {
     }
 
     pub fn place(self) -> usize
-        ensures { λ r. ⌜ r ≡ placeOf self ⌝ }
+        ensures { λ r. ⌜ r ≡ placeIn (replyOf self) ⌝ }
     {
         match self {
             Answer::Reacts { .. } => 0,
@@ -103,7 +104,7 @@ fn next_of_states(rows: &[u8; 1024], width: u32, states: u32, inputs: u32) -> Ga
 
 // Whether some input is delayed in the state is known already.
 fn weight(hold: u32, bound: u32, delayed: bool) -> u32
-    requires { ⌜ (hold ≤ 3600000) × (bound ≤ 60000) ⌝ }
+    requires { ⌜ (hold ≤ longestHold) × (bound ≤ largestBound) ⌝ }
     ensures { λ r. ⌜ r ≡ weightOf hold bound delayed ⌝ }
 {
     if 0 < hold && delayed {
@@ -127,7 +128,7 @@ fn largest_weight<'a>(
     states: u32,
     inputs: u32,
 ) -> u32
-    requires { ⌜ (bound ≤ 60000) × ((p : ℕ) → member states p ≡ true → getD (now holds) p 0 ≤ 3600000) ⌝ }
+    requires { ⌜ (bound ≤ largestBound) × ((p : ℕ) → member states p ≡ true → getD (now holds) p 0 ≤ longestHold) ⌝ }
     ensures { λ r. ⌜ IsLargest states (weightIn (now (holds .entry)) (now (delayed .entry)) bound inputs) r ⌝ }
 {
     let mut rest = states;
@@ -171,9 +172,8 @@ pub fn react(table: &[u8], states: u32, inputs: u32) -> Answer
     ensures { λ r. ⌜ r ≡ reactOf (now (table .entry)) states inputs ⌝ }
 {
     let checked = table::check(table);
-    let refusal = checked.answer;
-    let table::Answer::Passes = refusal else {
-        return Answer::TableRefused(refusal);
+    let table::Answer::Passes = checked else {
+        return Answer::TableRefused(checked);
     };
-    react_checked(checked.table, states, inputs)
+    react_checked(table::read(table), states, inputs)
 }

@@ -1,4 +1,8 @@
-pub mod Laws
-pub mod Values
+pub mod Answers
 pub mod Rows
+pub mod Values
+pub mod Stands
+pub mod Reading
 pub mod WellFormed
+pub mod Under
+pub mod Determined

@@ -1,93 +1,127 @@
--- The loop that reads a field's entries into a lent array, for entries of any width, any limit and any refusal.
-use mathlib.Core.Path.{_≡_, refl, sym, ap, _∙_}
-use mathlib.Core.List.{List, _++_}
-use mathlib.Core.Bool.{Bool, true, false}
-use Prim.Native.Nat.{ℕ, _+_, _-_, _<_, _≤_}
+-- One field, outcome by outcome, and the loop that checks a field's entries in order, whatever they are.
+use mathlib.Core.Path.{_≡_, refl, _∙_}
+use mathlib.Core.List.{List, [], _∷_}
+use mathlib.Core.Bool.{Bool, true, false, _&&_}
+use Prim.Native.Nat.{ℕ, zero, suc, _+_, _-_, _<_, _≤_}
+use native.Mathlib.Nat.{not-suc-le-zero}
 use native.Mathlib.Omega.{arith}
-use borrow.Author.Tests.{lt-ltb, le-ltb, le-leb, lt-leb}
-use lib.Dec.{eqb}
-use lib.ListN.{length, set, drop, length-set}
-use Rattle.wire.specs.Choice.{_=?_, _≤?_, if_then_else_}
-use Rattle.wire.proofs.Choice.{never}
-use Rattle.wire.proofs.Laws.{WholeAt}
+use borrow.Author.Tests.{eqb-true, le-ltb, lt-ltb, ltb-true}
+use denote.Enum.Declared.{tagOf}
+use types.Run.{OneOf, miss}
+use lib.ListN.{length}
+use Rattle.wire.specs.Choice.{_=?_, if_then_else_}
+use Rattle.wire.specs.Field.{fieldAt}
+use Rattle.wire.specs.declared.Field.{Field}
+use Rattle.wire.specs.declared.Field.the-variants.{Whole, RunOut}
+use Rattle.wire.proofs.Choice.{both}
+use Rattle.wire.proofs.Laws.{WholeAt, whole-at}
+use Rattle.wire.proofs.Field as FieldT
 use Rattle.table.specs.declared.Answer.{Answer}
-use Rattle.table.specs.declared.Answer.the-variants.{Passes, EntryOutOfRange, HoldTooLong, UnknownInputDelayed}
-use Rattle.table.specs.Answer.{numberOf}
-use Rattle.table.specs.Entries.{values, firstFrom}
-use Rattle.table.specs.Check.{fieldAnswer, badEntry, entriesBelow, rowAnswer, EntriesRead}
-use Rattle.table.proofs.Laws.{Refused, Passed, refuses, passes, stops, goes-on, first-passes, field-stands}
-use Rattle.table.proofs.Values.{first-none, first-here, first-next, set-values}
+use Rattle.table.specs.declared.Answer.the-variants.{Passes, RunsOut, WrongTagOrLength, HoldTooLong, UnknownInputDelayed}
+use Rattle.table.specs.Answer.{passes?, _or-else_, _and-then_}
+use Rattle.table.specs.Entries.{entriesFrom}
+use Rattle.table.specs.Check.{named, fieldAnswer, rowAnswer, below, badWord}
+use Rattle.table.proofs.Answers.{Passed, Refused, let-pass, refusal-stands, holds, fails, told}
+use Rattle.table.proofs.Answers.{refusal-stops, stops, goes-on, past, first-passes, rest-passes}
 
--- The field stands; its entries before the k-th are below the limit, and are in the array.
-pub record Filling (s : List ℕ) (at tag size : ℕ) (entry : ℕ → ℕ) (limit n : ℕ) (before after : List ℕ) (k : ℕ) : Type 0 where
-  pub stands : fieldAnswer s at tag size ≡ Passes
-  pub room : at + 3 + size ≤ length s
-  pub low : k ≤ n
-  pub here : firstFrom (λ j. limit ≤? entry j) (n - k) k ≡ firstFrom (λ j. limit ≤? entry j) n 0
-  pub is : after ≡ values entry k ++ drop k before
-  pub same : length after ≡ length before
+module _ (s : List ℕ) (at tag size : ℕ) (f : Field) (is : f ≡ fieldAt s at) where
+  pub runs-out : OneOf (1 ∷ []) (tagOf FieldT.the-type f) → RunsOut at ≡ fieldAnswer s at tag size
+  unfolding fieldAnswer named
+  runs-out h = rw (← is) (go f h)
+    where
+      go : (g : Field) → OneOf (1 ∷ []) (tagOf FieldT.the-type g) → RunsOut at ≡ named g at tag size
+      go (Whole found claimed) h = absurd (miss (1 ∷ []) 0 tt h)
+      go RunOut h = refl
 
-pub bad-refuses : (tag place : ℕ) → (numberOf (badEntry tag place) =? 0) ≡ false
-unfolding badEntry
-bad-refuses tag place = go (eqb tag 5) (eqb tag 6)
+  pub is-whole : (found claimed : ℕ) → f ≡ Whole found claimed → (r : Answer) →
+      r ≡ ((found =? tag) && (claimed =? size) or-else WrongTagOrLength at) → r ≡ fieldAnswer s at tag size
+  unfolding fieldAnswer named
+  is-whole found claimed whole r e = rw (← is, whole) e
+
+pub field-stands : (s : List ℕ) (at tag size : ℕ) → fieldAnswer s at tag size ≡ Passes → WholeAt s at tag size
+unfolding fieldAnswer named
+field-stands s at tag size e = go (fieldAt s at) refl e
   where
-    go : (a b : Bool) → (numberOf (if a then HoldTooLong place else if b then UnknownInputDelayed place else EntryOutOfRange place) =? 0) ≡ false
-    go true b = refl
-    go false true = refl
-    go false false = refl
+    go : (f : Field) → fieldAt s at ≡ f → named f at tag size ≡ Passes → WholeAt s at tag size
+    go RunOut is p = refusal-stands (RunsOut at) refl p
+    go (Whole found claimed) is p =
+        let b = both (found =? tag) (claimed =? size) (told _ (WrongTagOrLength at) refl p) in
+        let t : found ≡ tag = eqb-true found tag (b .0) in
+        let n : claimed ≡ size = eqb-true claimed size (b .1) in
+        whole-at s at tag size (rw (← t, ← n) is)
 
-module _ (s : List ℕ) (at tag size : ℕ) (entry : ℕ → ℕ) (n limit : ℕ) (before : List ℕ) where
-  pub no-field : (place : ℕ → ℕ) (a : Answer) → a ≡ fieldAnswer s at tag size → Refused a → (after : List ℕ) →
-      EntriesRead (rowAnswer s at tag size place entry n limit) a entry n before after
+-- ---- Entries in order
+
+-- The field stands, and the answer from entry k on is the whole row's.
+pub record Checking (s : List ℕ) (at tag size : ℕ) (entry : ℕ → Answer) (n k : ℕ) : Type 0 where
+  pub room : at + 3 + size ≤ length s
+  pub here : entriesFrom entry (n - k) k ≡ rowAnswer s at tag size entry n
+
+module _ (s : List ℕ) (at tag size : ℕ) (entry : ℕ → Answer) (n : ℕ) (a : Answer) (is : a ≡ fieldAnswer s at tag size) where
+  pub no-field : Refused a → a ≡ rowAnswer s at tag size entry n
   unfolding rowAnswer
-  no-field place a e h after = record {
-    answers = rw e (stops (fieldAnswer s at tag size) _ (rw e at h));
-    holds = λ p. never (sym (refuses a h) ∙ ap (λ x. numberOf x =? 0) p);
-  }
+  no-field h = stops _ is h
 
-  pub none-read : (a : Answer) → a ≡ fieldAnswer s at tag size → Passed a → Filling s at tag size entry limit n before before 0
-  unfolding values
-  none-read a is h =
-      let p : fieldAnswer s at tag size ≡ Passes = sym is ∙ passes a h in
+  pub none-checked : Passed a → Checking s at tag size entry n 0
+  unfolding rowAnswer
+  none-checked h =
       let e : n - 0 ≡ n = omega arith in
-      record { stands = p; room = field-stands s at tag size p .fits; low = omega arith; here = rw e; is = refl; same = refl }
+      record { room = field-stands s at tag size (let-pass is h) .fits; here = rw e (past is h refl) }
 
-  module _ (after : List ℕ) (k : ℕ) (inv : Filling s at tag size entry limit n before after k) where
-    pub all-read : (place : ℕ → ℕ) → n ≤ k → EntriesRead (rowAnswer s at tag size place entry n limit) Passes entry n before after
-    unfolding rowAnswer entriesBelow
-    all-read place h =
-        let e : k ≡ firstFrom (λ j. limit ≤? entry j) n 0 = sym (first-none (λ j. limit ≤? entry j) n k h) ∙ inv .here in
-        let f : k ≡ n = omega arith in
-        record {
-          answers = rw (← goes-on (fieldAnswer s at tag size) _ (inv .stands), ← e, le-ltb k n h);
-          holds = λ p. rw (← f) (inv .is);
-        }
+module _ {s : List ℕ} {at tag size : ℕ} {entry : ℕ → Answer} {n k : ℕ} (inv : Checking s at tag size entry n k) where
+  pub all-checked : n ≤ k → Passes ≡ rowAnswer s at tag size entry n
+  unfolding entriesFrom
+  all-checked h = let e : n - k ≡ 0 = omega arith in rw e at (inv .here)
 
-    module _ (more : k < n) where
-      pub bad-entry : (place : ℕ → ℕ) → limit ≤ entry k → (a : Answer) → a ≡ badEntry tag (place k) →
-          EntriesRead (rowAnswer s at tag size place entry n limit) a entry n before after
-      unfolding rowAnswer entriesBelow
-      bad-entry place h a is =
-          let b : (limit ≤? entry k) ≡ true = le-leb limit (entry k) h in
-          let e : k ≡ firstFrom (λ j. limit ≤? entry j) n 0 = sym (first-here (λ j. limit ≤? entry j) n k more b) ∙ inv .here in
-          record {
-            answers = rw (← goes-on (fieldAnswer s at tag size) _ (inv .stands), ← e, lt-ltb k n more) is;
-            holds = λ p. never (sym (rw is (bad-refuses tag (place k))) ∙ ap (λ x. numberOf x =? 0) p);
-          }
+  module _ (more : k < n) where
+    from-here : entry k and-then entriesFrom entry (n - (k + 1)) (k + 1) ≡ rowAnswer s at tag size entry n
+    unfolding entriesFrom
+    from-here = let e : n - k ≡ suc (n - (k + 1)) = omega arith in rw e at (inv .here)
 
-      pub one-more : entry k < limit → n ≤ length before → (v : ℕ) → v ≡ entry k → Filling s at tag size entry limit n before (set after k v) (k + 1)
-      one-more h room v e =
-          let b : (limit ≤? entry k) ≡ false = lt-leb limit (entry k) h in
-          record {
-            stands = inv .stands;
-            room = inv .room;
-            low = omega arith;
-            here = sym (first-next (λ j. limit ≤? entry j) n k more b) ∙ inv .here;
-            is = rw (e, inv .is) (set-values entry before k (omega arith));
-            same = simp length-set (inv .same);
-          }
+    pub bad-entry : (a : Answer) → a ≡ entry k → passes? a ≡ false → a ≡ rowAnswer s at tag size entry n
+    bad-entry a is r = refusal-stops _ is r ∙ from-here
 
-pub row-stands : (s : List ℕ) (at tag size : ℕ) (place entry : ℕ → ℕ) (n limit : ℕ) → rowAnswer s at tag size place entry n limit ≡ Passes →
-    WholeAt s at tag size
-unfolding rowAnswer
-row-stands s at tag size place entry n limit e = field-stands s at tag size (first-passes (fieldAnswer s at tag size) _ e)
+    pub good-entry : entry k ≡ Passes → Checking s at tag size entry n (k + 1)
+    good-entry e = record { room = inv .room; here = goes-on e refl ∙ from-here }
+
+-- ---- A row that passes
+
+pub each-passes : (entry : ℕ → Answer) (n i : ℕ) → entriesFrom entry n i ≡ Passes → (k : ℕ) → k < n → entry (i + k) ≡ Passes
+unfolding entriesFrom
+each-passes entry zero i e k h = absurd (not-suc-le-zero h)
+each-passes entry (suc n) i e zero h = let z : i + 0 ≡ i = omega arith in rw z (first-passes (entry i) _ e)
+each-passes entry (suc n) i e (suc k) h =
+    let z : i + suc k ≡ (i + 1) + k = omega arith in
+    rw z (each-passes entry n (i + 1) (rest-passes (entry i) _ e) k (omega arith))
+
+module _ (s : List ℕ) (at tag size : ℕ) (entry : ℕ → Answer) (n : ℕ) (e : rowAnswer s at tag size entry n ≡ Passes) where
+  pub row-stands : WholeAt s at tag size
+  unfolding rowAnswer
+  row-stands = field-stands s at tag size (first-passes _ _ e)
+
+  pub row-each : (k : ℕ) → k < n → entry k ≡ Passes
+  unfolding rowAnswer
+  row-each k h = let z : 0 + k ≡ k = omega arith in rw z at (each-passes entry n 0 (rest-passes _ _ e) k h)
+
+-- ---- Entries that a limit decides
+
+module _ (limit : ℕ) (entry : ℕ → ℕ) (called : ℕ → Answer) (k : ℕ) where
+  pub is-called : limit ≤ entry k → called k ≡ below limit entry called k
+  unfolding below
+  is-called h = fails (le-ltb (entry k) limit h)
+
+  pub is-below : entry k < limit → below limit entry called k ≡ Passes
+  unfolding below
+  is-below h = holds (called k) (lt-ltb (entry k) limit h)
+
+  pub limited : passes? (called k) ≡ false → below limit entry called k ≡ Passes → entry k < limit
+  unfolding below
+  limited r e = ltb-true (entry k) limit (told _ (called k) r e)
+
+pub bad-word-refuses : (tag place : ℕ) → passes? (badWord tag place) ≡ false
+unfolding badWord
+bad-word-refuses tag place = go (tag =? 0x05)
+  where
+    go : (b : Bool) → passes? (if b then HoldTooLong place else UnknownInputDelayed place) ≡ false
+    go true = refl
+    go false = refl

@@ -1,33 +1,32 @@
--- The numbers and places of document 01, "Numbers given back when something is turned down", for the table's refusals.
-use Prim.Native.Nat.{ℕ}
+-- The table check's replies: document 01, "Numbers given back when something is turned down". And checks one after another.
+use mathlib.Core.List.{[]}
+use mathlib.Core.Bool.{Bool}
 use Rattle.wire.specs.Choice.{_=?_, if_then_else_}
+use Rattle.wire.specs.Reply.{Reply, gives, refuses, numberIn}
 use Rattle.table.specs.declared.Answer.{Answer}
 use Rattle.table.specs.declared.Answer.the-variants.{Passes, RunsOut, WrongTagOrLength, CountOutOfRange, BoundOutOfRange}
 use Rattle.table.specs.declared.Answer.the-variants.{EntryOutOfRange, HoldTooLong, UnknownInputDelayed, BytesAfter}
 
 infixr 20 _and-then_
-abbrev pub numberOf : Answer → ℕ
-numberOf Passes = 0
-numberOf (RunsOut at) = 1
-numberOf (WrongTagOrLength at) = 2
-numberOf (CountOutOfRange at) = 3
-numberOf (BoundOutOfRange at) = 4
-numberOf (EntryOutOfRange at) = 5
-numberOf (HoldTooLong at) = 6
-numberOf (UnknownInputDelayed at) = 7
-numberOf (BytesAfter at) = 8
+infix 22 _or-else_
+abbrev pub replyOf : Answer → Reply
+replyOf Passes = gives []
+replyOf (RunsOut at) = refuses 1 at
+replyOf (WrongTagOrLength at) = refuses 2 at
+replyOf (CountOutOfRange at) = refuses 3 at
+replyOf (BoundOutOfRange at) = refuses 4 at
+replyOf (EntryOutOfRange at) = refuses 5 at
+replyOf (HoldTooLong at) = refuses 6 at
+replyOf (UnknownInputDelayed at) = refuses 7 at
+replyOf (BytesAfter at) = refuses 8 at
 
-abbrev pub placeOf : Answer → ℕ
-placeOf Passes = 0
-placeOf (RunsOut at) = at
-placeOf (WrongTagOrLength at) = at
-placeOf (CountOutOfRange at) = at
-placeOf (BoundOutOfRange at) = at
-placeOf (EntryOutOfRange at) = at
-placeOf (HoldTooLong at) = at
-placeOf (UnknownInputDelayed at) = at
-placeOf (BytesAfter at) = at
+abbrev pub passes? : Answer → Bool
+passes? a = numberIn (replyOf a) =? 0
+
+-- A test that fails turns the table down.
+unfoldable pub _or-else_ : Bool → Answer → Answer
+test or-else refusal = if test then Passes else refusal
 
 -- Checks in order: the first that turns the table down gives the answer.
 unfoldable pub _and-then_ : Answer → Answer → Answer
-a and-then b = if numberOf a =? 0 then b else a
+a and-then b = if passes? a then b else a

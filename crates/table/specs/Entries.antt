@@ -1,19 +1,24 @@
--- Rows of entries: their values in order, the first bad one, and the array that holds them.
+-- The entries of a field: checked in order, and held in an array.
 use mathlib.Core.List.{List, [], _∷_, _++_}
-use mathlib.Core.Bool.{Bool}
 use Prim.Native.Nat.{ℕ, zero, suc, _+_, _-_}
-use lib.ListN.{length, replicate}
-use Rattle.wire.specs.Choice.{if_then_else_}
+use lib.ListN.{length, drop, replicate}
+use Rattle.table.specs.declared.Answer.{Answer}
+use Rattle.table.specs.declared.Answer.the-variants.{Passes}
+use Rattle.table.specs.Answer.{_and-then_}
+
+-- Entries i, i + 1, .., i + n - 1, of which each passes or is what a bad one is called: the first bad one gives the answer.
+unfoldable pub entriesFrom : (ℕ → Answer) → ℕ → ℕ → Answer
+entriesFrom entry zero i = Passes
+entriesFrom entry (suc n) i = entry i and-then entriesFrom entry n (i + 1)
 
 -- f 0, f 1, .., f (n - 1)
 unfoldable pub values : (ℕ → ℕ) → ℕ → List ℕ
 values f zero = []
 values f (suc n) = values f n ++ f n ∷ []
 
--- The first of i, i + 1, .., i + n - 1 that is bad, or i + n.
-unfoldable pub firstFrom : (ℕ → Bool) → ℕ → ℕ → ℕ
-firstFrom bad zero i = i
-firstFrom bad (suc n) i = if bad i then i else firstFrom bad n (i + 1)
+-- An array whose first n places are filled.
+abbrev pub filled : (ℕ → ℕ) → ℕ → List ℕ → List ℕ
+filled f n array = values f n ++ drop n array
 
 abbrev pub zeros : ℕ → List ℕ
 zeros n = replicate n 0

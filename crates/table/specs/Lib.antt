@@ -1,5 +1,6 @@
 pub mod Answer
 pub mod Entries
-pub mod Check
 pub mod Table
+pub mod Check
+pub mod Under
 pub mod Encode

@@ -7,6 +7,13 @@ use lib.ListN.{length, getD}
 pub use Rattle.sets.specs.Sets.{member}
 use Rattle.table.specs.declared.Table.{Table}
 
+-- The largest cycle bound E, and the longest hold.
+abbrev pub largestBound : ℕ
+largestBound = 60000
+
+abbrev pub longestHold : ℕ
+longestHold = 3600000
+
 abbrev pub outputOf : Table → ℕ → ℕ
 outputOf t q = getD (t .output) q 0
 
@@ -33,10 +40,10 @@ pub record WellFormed (t : Table) : Type 0 where
   pub inputs : (1 ≤ t .inputs) × (t .inputs ≤ 32)
   pub outputs : (1 ≤ t .outputs) × (t .outputs ≤ 32)
   pub initial : t .initial < t .states
-  pub bound : (1 ≤ t .bound) × (t .bound ≤ 60000)
+  pub bound : (1 ≤ t .bound) × (t .bound ≤ largestBound)
   pub output : (q : ℕ) → q < t .states → outputOf t q < t .outputs
   pub next : (q i : ℕ) → q < t .states → i < t .inputs → nextOf t q i < t .states
-  pub hold : (q : ℕ) → q < t .states → holdOf t q ≤ 3600000
+  pub hold : (q : ℕ) → q < t .states → holdOf t q ≤ longestHold
   pub delayed : (q i : ℕ) → q < t .states → delays t q i ≡ true → i < t .inputs
   pub output-uses : Uses (t .states) 32 (t .output)
   pub next-uses : Uses (t .states * t .inputs) 1024 (t .next)

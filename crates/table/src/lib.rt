@@ -1,20 +1,33 @@
-// The table check: any bytes go in; out comes the automaton's table as one value, or the refusal with its place. Everything
-// above reads tables only in this checked form. The fields are checked in file order, as document 01 sets down.
+// The table check and the table. The check looks at any bytes, field by field in file order, as document 01 sets down. From bytes
+// that passed the automaton's table is read as one value; everything above has tables only in this form.
 ghost use mathlib.Core.Path.{_≡_};
 ghost use Prim.Native.Nat.{_+_, _*_, _<_, _≤_};
 ghost use lib.ListN.{length, getD};
-ghost use Rattle.table.specs.Answer.{numberOf, placeOf};
-ghost use Rattle.table.specs.Check.{inRange, countsInRange, headAnswer, countsIn, entriesAnswer, tableOf, tableWith, noTable};
-ghost use Rattle.table.specs.Check.{checkedAs, checkedOf};
+ghost use Rattle.wire.specs.Reply.{numberIn, placeIn};
+ghost use Rattle.table.specs.Answer.{replyOf, _or-else_};
+ghost use Rattle.table.specs.Check.{countsIn, countsInRange, PlacesOf};
+ghost use Rattle.table.specs.Check.{countsAnswer, boundAnswer, holdsAnswer, entriesAnswer, tableAnswer, tableIn};
 use sets::set_limit;
 use wire::number32;
 use wire::wide;
 
+mod arrays;
 mod fields;
 
+use arrays::fill_next;
+use arrays::fill_output;
+use arrays::fill_state;
+use fields::check_bytes;
+use fields::check_words;
 use fields::expect_field;
-use fields::read_bytes;
-use fields::read_words;
+
+// The largest cycle bound E, and the longest hold.
+pub const LARGEST_BOUND: u32 = 60000;
+
+pub const LONGEST_HOLD: u32 = 3600000;
+
+// A hold that is allowed is below this.
+const HOLD_LIMIT: u64 = LONGEST_HOLD as u64 + 1;
 
 // Rows of next states have `inputs` entries each: next(q, i) stands at q * inputs + i. Entries that the counts leave unused are 0.
 pub struct Table {
@@ -42,24 +55,27 @@ pub enum Answer {
     BytesAfter(usize),
 }
 
-// The answer, and the table where it passes; where it does not, the table is all zeros.
-pub struct Checked {
-    pub answer: Answer,
-    pub table: Table,
-}
-
 // What field 01 says.
 pub struct Counts {
-    pub states: u32,
-    pub inputs: u32,
-    pub outputs: u32,
-    pub initial: u32,
+    pub states: u8,
+    pub inputs: u8,
+    pub outputs: u8,
+    pub initial: u8,
+}
+
+// How many next states field 04 has, where fields 04, 05 and 06 start, and where the table ends.
+struct Places {
+    pairs: usize,
+    next: usize,
+    hold: usize,
+    delayed: usize,
+    end: usize,
 }
 
 impl Answer {
     // The number that document 01 gives to the refusal; 0 where the table passes.
     pub fn number(self) -> u32
-        ensures { λ r. ⌜ r ≡ numberOf self ⌝ }
+        ensures { λ r. ⌜ r ≡ numberIn (replyOf self) ⌝ }
     {
         match self {
             Answer::Passes => 0,
@@ -75,7 +91,7 @@ impl Answer {
     }
 
     pub fn place(self) -> usize
-        ensures { λ r. ⌜ r ≡ placeOf self ⌝ }
+        ensures { λ r. ⌜ r ≡ placeIn (replyOf self) ⌝ }
     {
         match self {
             Answer::Passes => 0,
@@ -91,10 +107,11 @@ impl Answer {
     }
 }
 
-fn in_range(low: u32, high: u32, x: u32) -> bool
-    ensures { λ r. ⌜ r ≡ inRange low high x ⌝ }
+// A test that fails turns the table down.
+fn or_else(test: bool, refusal: Answer) -> Answer
+    ensures { λ r. ⌜ r ≡ test or-else refusal ⌝ }
 {
-    low <= x && x <= high
+    if test { Answer::Passes } else { refusal }
 }
 
 fn counts_in(s: &[u8]) -> Counts
@@ -102,146 +119,149 @@ fn counts_in(s: &[u8]) -> Counts
     ensures { λ r. ⌜ r ≡ countsIn (now (s .entry)) ⌝ }
 {
     Counts {
-        states: wide(s[3]),
-        inputs: wide(s[4]),
-        outputs: wide(s[5]),
-        initial: wide(s[6]),
+        states: s[3],
+        inputs: s[4],
+        outputs: s[5],
+        initial: s[6],
     }
 }
 
+// All the tests are made: none is worth a branch of its own.
 fn counts_in_range(c: Counts) -> bool
     ensures { λ r. ⌜ r ≡ countsInRange c ⌝ }
 {
-    if !in_range(1, 32, c.states) {
-        return false;
-    }
-    if !in_range(1, 32, c.inputs) {
-        return false;
-    }
-    if !in_range(1, 32, c.outputs) {
-        return false;
-    }
-    c.initial < c.states
+    ((1 <= c.states) & (c.states <= 32))
+        & ((1 <= c.inputs) & (c.inputs <= 32))
+        & ((1 <= c.outputs) & (c.outputs <= 32))
+        & (c.initial < c.states)
 }
 
-// Fields 01 and 02.
-fn check_head(s: &[u8]) -> Answer
-    ensures { λ r. ⌜ r ≡ headAnswer (now (s .entry)) ⌝ }
+// Field 01.
+fn check_counts(s: &[u8]) -> Answer
+    ensures { λ r. ⌜ r ≡ countsAnswer (now (s .entry)) ⌝ }
 {
-    let first = expect_field(s, 0, 0x01, 4);
-    let Answer::Passes = first else {
-        return first;
+    let stands = expect_field(s, 0, 0x01, 4);
+    let Answer::Passes = stands else {
+        return stands;
     };
-    if !counts_in_range(counts_in(s)) {
-        return Answer::CountOutOfRange(0);
-    }
-    let second = expect_field(s, 7, 0x02, 4);
-    let Answer::Passes = second else {
-        return second;
+    or_else(counts_in_range(counts_in(s)), Answer::CountOutOfRange(0))
+}
+
+// Field 02.
+fn check_bound(s: &[u8]) -> Answer
+    requires { ⌜ 7 ≤ length (now s) ⌝ }
+    ensures { λ r. ⌜ r ≡ boundAnswer (now (s .entry)) ⌝ }
+{
+    let stands = expect_field(s, 7, 0x02, 4);
+    let Answer::Passes = stands else {
+        return stands;
     };
-    if !in_range(1, 60000, number32(s, 10)) {
-        return Answer::BoundOutOfRange(7);
-    }
-    Answer::Passes
+    let bound = number32(s, 10);
+    or_else(
+        (1 <= bound) & (bound <= LARGEST_BOUND),
+        Answer::BoundOutOfRange(7),
+    )
 }
 
-fn refused(answer: Answer) -> Checked
-    ensures { λ r. ⌜ r ≡ record { answer = answer; table = noTable } ⌝ }
+// How many pairs of a state and an input there are.
+fn pairs_of(c: Counts) -> usize
+    requires { ⌜ (c .states ≤ 32) × (c .inputs ≤ 32) ⌝ }
+    ensures { λ r. ⌜ (r ≡ c .states * c .inputs) × (r ≤ 1024) ⌝ }
 {
-    Checked {
-        answer,
-        table: Table {
-            states: 0,
-            inputs: 0,
-            outputs: 0,
-            initial: 0,
-            bound: 0,
-            output: [0u8; 32],
-            next: [0u8; 1024],
-            hold: [0u32; 32],
-            delayed: [0u32; 32],
-        },
-    }
+    (c.states as usize) * (c.inputs as usize)
 }
 
-fn passed(
-    c: Counts,
-    bound: u32,
-    output: [u8; 32],
-    next: [u8; 1024],
-    hold: [u32; 32],
-    delayed: [u32; 32],
-) -> Checked
-    ensures { λ r. ⌜ r ≡ record { answer = Answer.Passes; table = tableWith c bound output next hold delayed } ⌝ }
-{
-    Checked {
-        answer: Answer::Passes,
-        table: Table {
-            states: c.states,
-            inputs: c.inputs,
-            outputs: c.outputs,
-            initial: c.initial,
-            bound,
-            output,
-            next,
-            hold,
-            delayed,
-        },
-    }
-}
-
-// Fields 03 to 06, and the bytes after them, under the counts of fields 01 and 02.
-fn check_entries(s: &[u8], c: Counts) -> Checked
-    requires { ⌜ (14 ≤ length (now s)) × (c .states ≤ 32) × (c .inputs ≤ 32) ⌝ }
-    ensures { λ r. ⌜ r ≡ checkedAs (entriesAnswer c (now (s .entry))) (tableOf c (now (s .entry))) ⌝ }
+fn places_of(c: Counts) -> Places
+    requires { ⌜ (c .states ≤ 32) × (c .inputs ≤ 32) ⌝ }
+    ensures { λ r. ⌜ PlacesOf c r ⌝ }
 {
     let states = c.states as usize;
-    let rows = states * (c.inputs as usize);
-    let next_field = 17 + states;
-    let hold_field = next_field + 3 + rows;
-    let delayed_field = hold_field + 3 + 4 * states;
-    let end = delayed_field + 3 + 4 * states;
-    let mut output = [0u8; 32];
-    let outputs_read = read_bytes(s, 14, 0x03, states, c.outputs, &mut output);
-    let Answer::Passes = outputs_read else {
-        return refused(outputs_read);
-    };
-    let mut next = [0u8; 1024];
-    let next_read = read_bytes(s, next_field, 0x04, rows, c.states, &mut next);
-    let Answer::Passes = next_read else {
-        return refused(next_read);
-    };
-    let mut hold = [0u32; 32];
-    let holds_read = read_words(s, hold_field, 0x05, states, 3600001, &mut hold);
-    let Answer::Passes = holds_read else {
-        return refused(holds_read);
-    };
-    let mut delayed = [0u32; 32];
-    let delayed_read = read_words(
-        s,
-        delayed_field,
-        0x06,
-        states,
-        set_limit(c.inputs),
-        &mut delayed,
-    );
-    let Answer::Passes = delayed_read else {
-        return refused(delayed_read);
-    };
-    if end < s.len() {
-        return refused(Answer::BytesAfter(end));
+    let pairs = pairs_of(c);
+    let next = 17 + states;
+    let hold = next + 3 + pairs;
+    let delayed = hold + 3 + 4 * states;
+    Places {
+        pairs,
+        next,
+        hold,
+        delayed,
+        end: delayed + 3 + 4 * states,
     }
-    passed(c, number32(s, 10), output, next, hold, delayed)
 }
 
-pub fn check(s: &[u8]) -> Checked
-    ensures { λ r. ⌜ r ≡ checkedOf (now (s .entry)) ⌝ }
+// Fields 05 and 06, and the bytes after them.
+fn check_holds(s: &[u8], c: Counts, p: Places) -> Answer
+    requires { ⌜ PlacesOf c p × (p .hold ≤ length (now s)) × (c .states ≤ 32) × (c .inputs ≤ 32) ⌝ }
+    ensures { λ r. ⌜ r ≡ holdsAnswer c (now (s .entry)) ⌝ }
 {
-    let head = check_head(s);
-    let Answer::Passes = head else {
-        return refused(head);
+    let states = c.states as usize;
+    let holds = check_words(s, p.hold, 0x05, states, HOLD_LIMIT);
+    let Answer::Passes = holds else {
+        return holds;
+    };
+    let delayed = check_words(s, p.delayed, 0x06, states, set_limit(c.inputs as u32));
+    let Answer::Passes = delayed else {
+        return delayed;
+    };
+    or_else(s.len() <= p.end, Answer::BytesAfter(p.end))
+}
+
+// Fields 03 to 06, and the bytes after them, under the counts of field 01.
+fn check_entries(s: &[u8], c: Counts) -> Answer
+    requires { ⌜ (14 ≤ length (now s)) × (c .states ≤ 32) × (c .inputs ≤ 32) ⌝ }
+    ensures { λ r. ⌜ r ≡ entriesAnswer c (now (s .entry)) ⌝ }
+{
+    let p = places_of(c);
+    let outputs = check_bytes(s, 14, 0x03, c.states as usize, c.outputs);
+    let Answer::Passes = outputs else {
+        return outputs;
+    };
+    let next = check_bytes(s, p.next, 0x04, p.pairs, c.states);
+    let Answer::Passes = next else {
+        return next;
+    };
+    check_holds(s, c, p)
+}
+
+// It only looks, and makes no table.
+pub fn check(s: &[u8]) -> Answer
+    ensures { λ r. ⌜ r ≡ tableAnswer (now (s .entry)) ⌝ }
+{
+    let counts = check_counts(s);
+    let Answer::Passes = counts else {
+        return counts;
+    };
+    let bound = check_bound(s);
+    let Answer::Passes = bound else {
+        return bound;
     };
     check_entries(s, counts_in(s))
+}
+
+// The table in bytes that passed, its arrays filled in place.
+pub fn read(s: &[u8]) -> Table
+    requires { ⌜ tableAnswer (now s) ≡ Answer.Passes ⌝ }
+    ensures { λ r. ⌜ r ≡ tableIn (now (s .entry)) ⌝ }
+{
+    let c = counts_in(s);
+    let states = c.states as usize;
+    let p = places_of(c);
+    let mut t = Table {
+        states: c.states as u32,
+        inputs: c.inputs as u32,
+        outputs: c.outputs as u32,
+        initial: c.initial as u32,
+        bound: number32(s, 10),
+        output: [0u8; 32],
+        next: [0u8; 1024],
+        hold: [0u32; 32],
+        delayed: [0u32; 32],
+    };
+    fill_output(s, 14, states, &mut t.output);
+    fill_next(s, p.next, p.pairs, &mut t.next);
+    fill_state(s, p.hold, states, &mut t.hold);
+    fill_state(s, p.delayed, states, &mut t.delayed);
+    t
 }
 
 // Where next(state, input) stands in the rows of a table with this many inputs.

@@ -1,6 +1,9 @@
 -- The table's refusal is passed up; a table that passes is well formed.
-use mathlib.Core.Path.{_∙_}
-use Rattle.reaction.proofs.Entry.{table-refused, table-well-formed, on-the-table}
+use mathlib.Core.Path.{sym, _∙_}
+use Rattle.table.proofs.Answers.{let-pass}
+use Rattle.table.proofs.Under.{under-passes, under-refuses}
+use Rattle.table.proofs.WellFormed.{well-formed}
+use Rattle.reaction.specs.Reaction.{reactOf}
 use borrow.Author.Needs.{needs}
 use Rattle.reaction.proofs.react.Statement.{statement}
 use Rattle.reaction.proofs.react.Tie as tie
@@ -12,13 +15,23 @@ enum-told : tie.Need-enum-told
 enum-told c = search needs
 
 returns : tie.Need-returns
-returns c = table-refused _ _ (c .before .check .ensures) (c .match .keys2) _ _
+unfolding reactOf
+returns c = sym (under-refuses _ _ _ _ (c .before .check .ensures) (c .match .keys2))
+
+read-requires : tie.Need-read-requires
+read-requires c κs = let-pass (c .before .before .check .ensures) (c .before .match .keys1)
 
 react-checked-requires : tie.Need-react-checked-requires
-react-checked-requires c κs = table-well-formed _ _ (c .before .before .check .ensures) (c .before .match .keys1)
+react-checked-requires c κs = rw (c .read .ensures) (well-formed _ (let-pass (c .before .before .before .check .ensures) (c .before .before .match .keys1)))
 
 returns-2 : tie.Need-returns-2
-returns-2 c = c .react-checked .ensures ∙ on-the-table _ _ (c .before .before .before .check .ensures) (c .before .before .match .keys1) _ _
+unfolding reactOf
+returns-2 c =
+    let told = c .before .before in
+    (rw (c .before .read .ensures) at (c .react-checked .ensures))
+    ∙ sym (under-passes _ _ _ (let-pass (told .before .before .check .ensures) (told .before .match .keys1)))
 
 pub react-spec : {M : Type 1} → statement M
-react-spec = tie.close (tie.spec check-requires enum-told returns react-checked-requires returns-2)
+react-spec =
+    tie.close
+    (tie.spec check-requires enum-told returns read-requires react-checked-requires returns-2)

@@ -1,42 +1,63 @@
--- Fields 01 and 02 first; the rest under the counts that they gave.
-use mathlib.Core.Path.{sym, _∙_}
+-- Fields 01 and 02 first; the rest under the counts that passed.
 use native.Mathlib.Omega.{arith}
-use Rattle.table.proofs.Laws.{passes, head-stands, no-head, head-then-entries}
+use Rattle.table.specs.Check.{tableAnswer}
+use Rattle.table.proofs.Answers.{let-pass, stops, past}
+use Rattle.table.proofs.Stands.{counts-stand, bound-stands}
 use borrow.Author.Needs.{needs}
 use Rattle.table.proofs.check.Statement.{statement}
 use Rattle.table.proofs.check.Tie as tie
 
-check-head-requires : tie.Need-check-head-requires
-check-head-requires c κs = search needs
+check-counts-requires : tie.Need-check-counts-requires
+check-counts-requires c κs = search needs
 
 enum-told : tie.Need-enum-told
 enum-told c = search needs
 
-refused-requires : tie.Need-refused-requires
-refused-requires c κs = search needs
-
 returns : tie.Need-returns
-returns c = no-head _ _ (c .before .before .check-head .ensures) (c .before .match .keys2) _ (c .refused .ensures)
+unfolding tableAnswer
+returns c = stops _ (c .before .check-counts .ensures) (c .match .keys2)
+
+check-bound-requires : tie.Need-check-bound-requires
+check-bound-requires c κs = omega (arith, counts-stand _ (let-pass (c .before .before .check-counts .ensures) (c .before .match .keys1)) .0 .fits)
+
+enum-told-2 : tie.Need-enum-told-2
+enum-told-2 c = search needs
+
+returns-2 : tie.Need-returns-2
+unfolding tableAnswer
+returns-2 c =
+    let told = c .before .before in
+    past (told .before .before .check-counts .ensures) (told .before .match .keys1) (stops _ (c .before .check-bound .ensures) (c .match2 .keys2))
 
 counts-in-requires : tie.Need-counts-in-requires
-counts-in-requires c κs = omega (arith, head-stands _ (sym (c .before .before .check-head .ensures) ∙ passes _ (c .before .match .keys1)) .counts-field .fits)
+counts-in-requires c κs = omega (arith, bound-stands _ (let-pass (c .before .before .check-bound .ensures) (c .before .match2 .keys1)) .0 .fits)
 
 check-entries-requires : tie.Need-check-entries-requires
 check-entries-requires c κs =
-    let h = head-stands _ (sym (c .before .before .before .check-head .ensures) ∙ passes _ (c .before .before .match .keys1)) in
+    let found = c .before .before in
+    let told = found .before .before in
+    let counts = counts-stand _ (let-pass (told .before .before .check-counts .ensures) (told .before .match .keys1)) .1 in
+    let long = bound-stands _ (let-pass (found .before .check-bound .ensures) (found .match2 .keys1)) .0 .fits in
     rw (c .counts-in .ensures) (search needs)
 
-returns-2 : tie.Need-returns-2
-returns-2 c = c .check-entries .ensures ∙ head-then-entries _ (sym (c .before .before .before .before .check-head .ensures) ∙ passes _ (c .before .before .before .match .keys1)) _ (c .before .counts-in .ensures)
+returns-3 : tie.Need-returns-3
+unfolding tableAnswer
+returns-3 c =
+    let found = c .before .before .before in
+    let told = found .before .before in
+    let rest = rw (c .before .counts-in .ensures) at (c .check-entries .ensures) in
+    past (told .before .before .check-counts .ensures) (told .before .match .keys1) (past (found .before .check-bound .ensures) (found .match2 .keys1) rest)
 
 pub check-spec : {M : Type 1} → statement M
 check-spec =
     tie.close
     (tie.spec
-    check-head-requires
+    check-counts-requires
     enum-told
-    refused-requires
     returns
+    check-bound-requires
+    enum-told-2
+    returns-2
     counts-in-requires
     check-entries-requires
-    returns-2)
+    returns-3)

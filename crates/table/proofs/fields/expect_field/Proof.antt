@@ -1,4 +1,5 @@
-use Rattle.table.proofs.Laws.{runs-out, wrong-tag, wrong-length, stands}
+-- Each way out is one outcome of `fieldAnswer`.
+use Rattle.table.proofs.Rows.{runs-out, is-whole}
 use borrow.Author.Needs.{needs}
 use Rattle.table.proofs.fields.expect_field.Statement.{statement}
 use Rattle.table.proofs.fields.expect_field.Tie as tie
@@ -15,16 +16,13 @@ enum-told c = search needs
 returns : tie.Need-returns
 returns c = runs-out _ _ _ _ _ (c .before .before .read-field .ensures) (c .before .match .keys2)
 
+or-else-requires : tie.Need-or-else-requires
+or-else-requires c κs = search needs
+
 returns-2 : tie.Need-returns-2
-returns-2 c = wrong-tag _ _ _ _ _ (c .before .before .before .before .read-field .ensures) _ _ (c .before .before .field .given .1) (search needs)
-
-returns-3 : tie.Need-returns-3
-returns-3 c = wrong-length _ _ _ _ _ (c .before .before .before .before .before .read-field .ensures) _ _ (c .before .before .before .field .given .1) (search needs) (search needs)
-
-returns-4 : tie.Need-returns-4
-returns-4 c = stands _ _ _ _ _ (c .before .before .before .before .before .read-field .ensures) _ _ (c .before .before .before .field .given .1) (search needs) (search needs)
+returns-2 c = is-whole _ _ _ _ _ (c .before .before .before .before .read-field .ensures) _ _ (c .before .before .field .given .1) _ (c .or-else .ensures)
 
 pub expect-field-spec : {M : Type 1} → statement M
 expect-field-spec =
     tie.close
-    (tie.spec read-field-requires enum-known-field enum-told returns returns-2 returns-3 returns-4)
+    (tie.spec read-field-requires enum-known-field enum-told returns or-else-requires returns-2)

@@ -1,0 +1,78 @@
+-- Each way out is a step along `holdsAnswer`; a field that stands lets the next be looked for.
+use native.Mathlib.Omega.{arith}
+use Rattle.table.specs.Check.{holdsAnswer}
+use Rattle.table.proofs.Answers.{let-pass, stops, past}
+use Rattle.table.proofs.Rows.{row-stands}
+use borrow.Author.Needs.{needs}
+use Rattle.table.proofs.check_holds.Statement.{statement}
+use Rattle.table.proofs.check_holds.Tie as tie
+
+cast-states : tie.Need-cast-states
+cast-states c = search needs
+
+check-words-requires : tie.Need-check-words-requires
+check-words-requires c κs = search needs
+
+enum-told : tie.Need-enum-told
+enum-told c = search needs
+
+returns : tie.Need-returns
+unfolding holdsAnswer
+returns c =
+    let found = c .before in
+    stops _ (rw (found .before .before .before .pre .0 .hold) at (found .check-words .ensures)) (c .match .keys2)
+
+cast-set-limit : tie.Need-cast-set-limit
+cast-set-limit c = search needs
+
+set-limit-requires : tie.Need-set-limit-requires
+set-limit-requires c κs = search needs
+
+check-words-requires-2 : tie.Need-check-words-requires-2
+check-words-requires-2 c κs =
+    let told = c .before .before in
+    omega (arith, row-stands _ _ _ _ _ _ (let-pass (told .before .before .check-words .ensures) (told .before .match .keys1)) .fits)
+
+enum-told-2 : tie.Need-enum-told-2
+enum-told-2 c = search needs
+
+returns-2 : tie.Need-returns-2
+unfolding holdsAnswer
+returns-2 c =
+    let limit = c .before .before in
+    let told = limit .before .before in
+    let places = told .before .before .before .before .before .pre .0 in
+    let holds = rw (places .hold) at (told .before .before .check-words .ensures) in
+    let delayed = rw (places .delayed, limit .set-limit .ensures) at (c .before .check-words2 .ensures) in
+    past holds (told .before .match .keys1) (stops _ delayed (c .match2 .keys2))
+
+or-else-requires : tie.Need-or-else-requires
+or-else-requires c κs = search needs
+
+returns-3 : tie.Need-returns-3
+unfolding holdsAnswer
+returns-3 c =
+    let found = c .before .before .before in
+    let limit = found .before .before in
+    let told = limit .before .before in
+    let places = told .before .before .before .before .before .pre .0 in
+    let holds = rw (places .hold) at (told .before .before .check-words .ensures) in
+    let delayed = rw (places .delayed, limit .set-limit .ensures) at (found .before .check-words2 .ensures) in
+    let end = rw (places .end) at (c .or-else .ensures) in
+    past holds (told .before .match .keys1) (past delayed (found .match2 .keys1) end)
+
+pub check-holds-spec : {M : Type 1} → statement M
+check-holds-spec =
+    tie.close
+    (tie.spec
+    cast-states
+    check-words-requires
+    enum-told
+    returns
+    cast-set-limit
+    set-limit-requires
+    check-words-requires-2
+    enum-told-2
+    returns-2
+    or-else-requires
+    returns-3)
