@@ -35,7 +35,7 @@ answerAfter reply answer = numberBytes (valuesIn reply) ++ drop (4 * length (val
 -- ---- What each entry tells. The table check has no numbers.
 
 abbrev pub journalTold : List ℕ → List ℕ → ℕ → Reply
-journalTold table journal room = told (journal.replyOf (checkOf table journal)) room
+journalTold table records room = told (journal.replyOf (checkOf table records)) room
 
 -- With a journal buffer and room for the answer.
 abbrev pub runTold : List ℕ → List ℕ → List ℕ → ℕ → Reply
