@@ -1,3 +1,4 @@
 pub mod TablePlaces
 pub mod Places
 pub mod Outcomes
+pub mod Determined

@@ -100,12 +100,11 @@ run-by F few t s = go (F .most <? length s) refl
 -- ---- The entries
 
 pub journal-fits : (table s : List ℕ) → Fits (journal′.replyOf (checkOf table s))
-unfolding checkOf
+unfolding checkOf answerOf
 journal-fits table s =
     under-either checked.TableRefused (λ t. answerIn journal t s) table (λ a. Fits (journal′.replyOf a)) (λ e. under (tableIn table)) (table-fits table)
   where
     answered : (t : Table) (r : Run) → RunBy r → Fits (journal′.replyOf (answerOf t r))
-    unfolding answerOf
     answered t (ran input taken last) h = record { number = omega arith; place = omega arith }
     answered t tooLong h = record { number = omega arith; place = omega arith }
     answered t (refused refusal place) h = record { number = refusal-small refusal; place = omega arith }
@@ -154,12 +153,11 @@ run-fits table s room a is = rw is (go (runOf table s) (run-refuses table s))
     go (run.journal bytes) h = told bytes (longestJournal <? length bytes) refl (room <? length bytes)
 
 pub reaction-fits : (table : List ℕ) (P A : ℕ) → Fits (reaction.replyOf (reactOf table P A))
-unfolding reactOf
+unfolding reactOf reactionOf
 reaction-fits table P A =
     under-either TableRefused (λ t. reactionOf t P A) table (λ a. Fits (reaction.replyOf a)) (λ e. under (tableIn table) (well-formed table e)) (table-fits table)
   where
     under : (t : Table) → WellFormed t → Fits (reaction.replyOf (reactionOf t P A))
-    unfolding reactionOf
     under t good = go (not (P <? 2 ^ t .states)) (not (A <? 2 ^ t .inputs)) (firstLeaving t P A <? t .states * t .inputs) refl
       where
         go : (b c d : Bool) → (firstLeaving t P A <? t .states * t .inputs) ≡ d →
