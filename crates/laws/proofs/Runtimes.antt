@@ -376,18 +376,20 @@ writes-the-journal table s before table-bytes bytes size e =
     only-journal : (table′ s′ : List ℕ) → Bytes s′ → (t : Table) → WellFormed t → table′ ≡ tables.encode t → (j : List ℕ) → madeUnder t s′ ≡ journal j →
         length j ≤ longestJournal → OnlyJournal table′ s′ j
     only-journal table′ s′ bytes′ t good is j made short =
-        let a = accepted-for t good s′ bytes′ j made short in
+        let k = keeps-the-stimulus t good s′ bytes′ j made in
+        let st = stimulus-of t s′ j (k .0) (k .1) (k .2) (k .3) in
+        let a = writes-accepted t good s′ (k .0) (map eventFor (k .1)) (k .2) st j made short in
         record {
           under = t;
           well-formed = good;
           table-is = is;
-          input = a .input;
-          records = a .records;
-          end = a .end;
-          for = a .for;
-          moves = a .moves;
-          state = a .state;
-          output = a .output;
-          accepted = sym (under table′ j t good is) ∙ a .accepted;
+          input = k .0;
+          records = k .1;
+          end = k .2;
+          for = k .3;
+          moves = a .0;
+          state = a .1;
+          output = a .2;
+          accepted = sym (under table′ j t good is) ∙ a .3;
           only = writes-the-only t s′ j made;
         }

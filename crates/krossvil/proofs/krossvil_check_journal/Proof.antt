@@ -7,18 +7,6 @@ use borrow.Author.Needs.{needs}
 use Rattle.krossvil.proofs.krossvil_check_journal.Statement.{statement}
 use Rattle.krossvil.proofs.krossvil_check_journal.Tie as tie
 
-check-requires : tie.Need-check-requires
-check-requires c κs = search needs
-
-enum-known-checked : tie.Need-enum-known-checked
-enum-known-checked c = search needs
-
-number-requires : tie.Need-number-requires
-number-requires c κs = search needs
-
-place-requires : tie.Need-place-requires
-place-requires c κs = search needs
-
 code-requires : tie.Need-code-requires
 code-requires c κs = let f = fits replyOf _ _ (c .before .before .before .check .ensures) _ _ (c .before .number .ensures) (c .place .ensures) (journal-fits _ _) in (f .number, f .place)
 
@@ -26,15 +14,6 @@ returns : tie.Need-returns
 returns c =
     refused replyOf _ _ (c .before .before .before .before .check .ensures) _ _ (c .before .before .number .ensures) (c .before .place .ensures)
     (journal-none (c .before .before .before .before .check .result) (c .before .before .before .match .keys2)) _ _ (c .code .ensures)
-
-slice-aggregate-tell : tie.Need-slice-aggregate-tell
-slice-aggregate-tell c = search needs
-
-tell-requires : tie.Need-tell-requires
-tell-requires c κs = search needs
-
-same-length : tie.Need-same-length
-same-length c = search needs
 
 returns-2 : tie.Need-returns-2
 returns-2 c =
@@ -45,14 +24,5 @@ returns-2 c =
 pub krossvil-check-journal-spec : {M : Type 1} → statement M
 krossvil-check-journal-spec =
     tie.close
-    (tie.spec
-    check-requires
-    enum-known-checked
-    number-requires
-    place-requires
-    code-requires
-    returns
-    slice-aggregate-tell
-    tell-requires
-    same-length
-    returns-2)
+    (tie.spec (λ c κs. search needs) (λ c. search needs) (λ c κs. search needs) (λ c κs. search needs)
+    code-requires returns (λ c. search needs) (λ c κs. search needs) (λ c. search needs) returns-2)

@@ -7,15 +7,6 @@ use borrow.Author.Needs.{needs}
 use Rattle.krossvil.proofs.krossvil_check_table.Statement.{statement}
 use Rattle.krossvil.proofs.krossvil_check_table.Tie as tie
 
-check-requires : tie.Need-check-requires
-check-requires c κs = search needs
-
-number-requires : tie.Need-number-requires
-number-requires c κs = search needs
-
-place-requires : tie.Need-place-requires
-place-requires c κs = search needs
-
 code-requires : tie.Need-code-requires
 code-requires c κs = let f = fits replyOf _ _ (c .before .before .check .ensures) _ _ (c .before .number .ensures) (c .place .ensures) (table-fits _) in (f .number, f .place)
 
@@ -24,4 +15,4 @@ returns c = rw (c .code .ensures, c .before .before .number .ensures, c .before 
 
 pub krossvil-check-table-spec : {M : Type 1} → statement M
 krossvil-check-table-spec =
-    tie.close (tie.spec check-requires number-requires place-requires code-requires returns)
+    tie.close (tie.spec (λ c κs. search needs) (λ c κs. search needs) (λ c κs. search needs) code-requires returns)

@@ -7,18 +7,6 @@ use borrow.Author.Needs.{needs}
 use Rattle.krossvil.proofs.krossvil_reaction.Statement.{statement}
 use Rattle.krossvil.proofs.krossvil_reaction.Tie as tie
 
-react-requires : tie.Need-react-requires
-react-requires c κs = search needs
-
-enum-known-reacted : tie.Need-enum-known-reacted
-enum-known-reacted c = search needs
-
-number-requires : tie.Need-number-requires
-number-requires c κs = search needs
-
-place-requires : tie.Need-place-requires
-place-requires c κs = search needs
-
 code-requires : tie.Need-code-requires
 code-requires c κs =
     let f = fits replyOf _ _ (c .before .before .before .react .ensures) _ _ (c .before .number .ensures) (c .place .ensures) (reaction-fits _ _ _) in
@@ -29,15 +17,6 @@ returns c =
     refused replyOf _ _ (c .before .before .before .before .react .ensures) _ _ (c .before .before .number .ensures) (c .before .place .ensures)
     (reaction-none (c .before .before .before .before .react .result) (c .before .before .before .match .keys2)) _ _ (c .code .ensures)
 
-slice-aggregate-tell : tie.Need-slice-aggregate-tell
-slice-aggregate-tell c = search needs
-
-tell-requires : tie.Need-tell-requires
-tell-requires c κs = search needs
-
-same-length : tie.Need-same-length
-same-length c = search needs
-
 returns-2 : tie.Need-returns-2
 returns-2 c =
     owed-same replyOf _ _ _ (c .before .before .before .before .before .before .before .before .react .ensures)
@@ -47,14 +26,5 @@ returns-2 c =
 pub krossvil-reaction-spec : {M : Type 1} → statement M
 krossvil-reaction-spec =
     tie.close
-    (tie.spec
-    react-requires
-    enum-known-reacted
-    number-requires
-    place-requires
-    code-requires
-    returns
-    slice-aggregate-tell
-    tell-requires
-    same-length
-    returns-2)
+    (tie.spec (λ c κs. search needs) (λ c. search needs) (λ c κs. search needs) (λ c κs. search needs)
+    code-requires returns (λ c. search needs) (λ c κs. search needs) (λ c. search needs) returns-2)

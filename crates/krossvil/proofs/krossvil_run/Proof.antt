@@ -5,17 +5,8 @@ use borrow.Author.Needs.{needs}
 use Rattle.krossvil.proofs.krossvil_run.Statement.{statement}
 use Rattle.krossvil.proofs.krossvil_run.Tie as tie
 
-slice-aggregate-run : tie.Need-slice-aggregate-run
-slice-aggregate-run c = search needs
-
-run-requires : tie.Need-run-requires
-run-requires c κs = search needs
-
 tell-run-requires : tie.Need-tell-run-requires
 tell-run-requires c κs = run-fits _ _ _ _ (c .before .before .run .ensures .0)
-
-same-length : tie.Need-same-length
-same-length c = search needs
 
 returns : tie.Need-returns
 returns c =
@@ -24,17 +15,8 @@ returns c =
     (c .before .before .before .before .before .before .before .before .before .before .before .before .args .journal .now) _
     (c .before .before .before .before .before .run .ensures .0) _ _ (c .before .before .tell-run .ensures)
 
-run-requires-2 : tie.Need-run-requires-2
-run-requires-2 c κs = search needs
-
 tell-run-requires-2 : tie.Need-tell-run-requires-2
 tell-run-requires-2 c κs = run-fits _ _ _ _ (c .before .before .before .run2 .ensures .0)
-
-same-length-2 : tie.Need-same-length-2
-same-length-2 c = search needs
-
-same-length-3 : tie.Need-same-length-3
-same-length-3 c = search needs
 
 returns-2 : tie.Need-returns-2
 returns-2 c =
@@ -45,14 +27,5 @@ returns-2 c =
 pub krossvil-run-spec : {M : Type 1} → statement M
 krossvil-run-spec =
     tie.close
-    (tie.spec
-    slice-aggregate-run
-    run-requires
-    tell-run-requires
-    same-length
-    returns
-    run-requires-2
-    tell-run-requires-2
-    same-length-2
-    same-length-3
-    returns-2)
+    (tie.spec (λ c. search needs) (λ c κs. search needs) tell-run-requires (λ c. search needs) returns
+    (λ c κs. search needs) tell-run-requires-2 (λ c. search needs) (λ c. search needs) returns-2)

@@ -7,18 +7,6 @@ use borrow.Author.Needs.{needs}
 use Rattle.krossvil.proofs.tell_run.Statement.{statement}
 use Rattle.krossvil.proofs.tell_run.Tie as tie
 
-enum-known-ran : tie.Need-enum-known-ran
-enum-known-ran c = search needs
-
-number-requires : tie.Need-number-requires
-number-requires c κs = search needs
-
-place-requires : tie.Need-place-requires
-place-requires c κs = search needs
-
-code-requires : tie.Need-code-requires
-code-requires c κs = search needs
-
 returns : tie.Need-returns
 returns c =
     refused replyOf _ (c .before .before .before .before .before .args .ran) refl _ _ (c .before .before .number .ensures) (c .before .place .ensures)
@@ -26,15 +14,6 @@ returns c =
 
 cast-length : tie.Need-cast-length
 cast-length c = let small = rw (c .before .ran .given .1) at (c .before .before .before .before .pre .1) in omega arith
-
-slice-aggregate-tell : tie.Need-slice-aggregate-tell
-slice-aggregate-tell c = search needs
-
-tell-requires : tie.Need-tell-requires
-tell-requires c κs = search needs
-
-same-length : tie.Need-same-length
-same-length c = search needs
 
 returns-2 : tie.Need-returns-2
 returns-2 c =
@@ -45,14 +24,5 @@ returns-2 c =
 pub tell-run-spec : {M : Type 1} → statement M
 tell-run-spec =
     tie.close
-    (tie.spec
-    enum-known-ran
-    number-requires
-    place-requires
-    code-requires
-    returns
-    cast-length
-    slice-aggregate-tell
-    tell-requires
-    same-length
-    returns-2)
+    (tie.spec (λ c. search needs) (λ c κs. search needs) (λ c κs. search needs) (λ c κs. search needs) returns
+    cast-length (λ c. search needs) (λ c κs. search needs) (λ c. search needs) returns-2)

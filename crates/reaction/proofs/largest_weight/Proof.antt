@@ -28,9 +28,6 @@ mul-meet c = omega (arith, c .before .take-smallest .ensures .below)
 element-copy-out-meet : tie.Need-element-copy-out-meet Inv-loop μ-loop
 element-copy-out-meet c = c .before .take-smallest .ensures .below
 
-meet-requires : tie.Need-meet-requires Inv-loop μ-loop
-meet-requires c κs = search needs
-
 mul-weight : tie.Need-mul-weight Inv-loop μ-loop
 mul-weight c = omega (arith, c .before .before .before .take-smallest .ensures .below)
 
@@ -42,9 +39,6 @@ weight-requires c κs =
     let taken = c .before .before .before .before in
     let pre = taken .before .before .before .pre in
     (pre .1 _ (taken-in (taken .before .before .loop .inv .walk) (taken .take-smallest .ensures)), pre .0)
-
-larger-requires : tie.Need-larger-requires Inv-loop μ-loop
-larger-requires c κs = search needs
 
 loop-less : tie.Need-loop-less Inv-loop μ-loop
 loop-less c = c .before .before .before .before .before .before .take-smallest .ensures .less
@@ -61,19 +55,6 @@ returns c = all-covered (c .before .loop .inv) (search needs)
 pub largest-weight-spec : {M : Type 1} → statement M
 largest-weight-spec =
     tie.close
-    (tie.spec
-    Inv-loop
-    μ-loop
-    loop-holds
-    take-smallest-requires
-    cast-state
-    mul-meet
-    element-copy-out-meet
-    meet-requires
-    mul-weight
-    element-copy-out-weight
-    weight-requires
-    larger-requires
-    loop-less
-    loop-again
-    returns)
+    (tie.spec Inv-loop μ-loop loop-holds take-smallest-requires cast-state mul-meet element-copy-out-meet
+    (λ c κs. search needs) mul-weight element-copy-out-weight weight-requires (λ c κs. search needs) loop-less
+    loop-again returns)

@@ -50,9 +50,6 @@ returns c =
 single-requires : tie.Need-single-requires Inv-loop μ-loop
 single-requires c κs = below-32 (c .before .before)
 
-union-requires : tie.Need-union-requires Inv-loop μ-loop
-union-requires c κs = search needs
-
 loop-less : tie.Need-loop-less Inv-loop μ-loop
 loop-less c = c .before .before .before .before .before .take-smallest .ensures .less
 
@@ -70,16 +67,5 @@ returns-2 c = all-inputs (c .before .loop .inv) (search needs)
 pub next-of-state-spec : {M : Type 1} → statement M
 next-of-state-spec =
     tie.close
-    (tie.spec
-    Inv-loop
-    μ-loop
-    loop-holds
-    take-smallest-requires
-    next-state-requires
-    has-requires
-    returns
-    single-requires
-    union-requires
-    loop-less
-    loop-again
-    returns-2)
+    (tie.spec Inv-loop μ-loop loop-holds take-smallest-requires next-state-requires has-requires returns
+    single-requires (λ c κs. search needs) loop-less loop-again returns-2)

@@ -22,20 +22,11 @@ take-smallest-requires c κs = omega arith
 next-of-state-requires : tie.Need-next-of-state-requires Inv-loop μ-loop
 next-of-state-requires c κs = (c .before .before .before .pre, taken-in (c .before .before .loop .inv .walk) (c .take-smallest .ensures))
 
-enum-known-from : tie.Need-enum-known-from Inv-loop μ-loop
-enum-known-from c = search needs
-
-enum-told : tie.Need-enum-told Inv-loop μ-loop
-enum-told c = search needs
-
 returns : tie.Need-returns Inv-loop μ-loop
 returns c =
     let taken = c .before .before .before in
     let from = c .before .before .next-of-state in
     passed-up (taken .before .before .loop .inv) (taken .take-smallest .ensures) (from .result) (c .before .match .keys2) (from .ensures)
-
-union-requires : tie.Need-union-requires Inv-loop μ-loop
-union-requires c κs = search needs
 
 loop-less : tie.Need-loop-less Inv-loop μ-loop
 loop-less c = c .before .before .before .before .before .take-smallest .ensures .less
@@ -52,16 +43,5 @@ returns-2 c = all-states (c .before .loop .inv) (search needs)
 pub next-of-states-spec : {M : Type 1} → statement M
 next-of-states-spec =
     tie.close
-    (tie.spec
-    Inv-loop
-    μ-loop
-    loop-holds
-    take-smallest-requires
-    next-of-state-requires
-    enum-known-from
-    enum-told
-    returns
-    union-requires
-    loop-less
-    loop-again
-    returns-2)
+    (tie.spec Inv-loop μ-loop loop-holds take-smallest-requires next-of-state-requires (λ c. search needs)
+    (λ c. search needs) returns (λ c κs. search needs) loop-less loop-again returns-2)

@@ -8,12 +8,6 @@ use borrow.Author.Needs.{needs}
 use Rattle.reaction.proofs.react.Statement.{statement}
 use Rattle.reaction.proofs.react.Tie as tie
 
-check-requires : tie.Need-check-requires
-check-requires c κs = search needs
-
-enum-told : tie.Need-enum-told
-enum-told c = search needs
-
 returns : tie.Need-returns
 unfolding reactOf
 returns c = sym (under-refuses _ _ _ _ (c .before .check .ensures) (c .match .keys2))
@@ -34,4 +28,4 @@ returns-2 c =
 pub react-spec : {M : Type 1} → statement M
 react-spec =
     tie.close
-    (tie.spec check-requires enum-told returns read-requires react-checked-requires returns-2)
+    (tie.spec (λ c κs. search needs) (λ c. search needs) returns read-requires react-checked-requires returns-2)

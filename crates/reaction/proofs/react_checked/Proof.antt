@@ -12,17 +12,11 @@ use Rattle.reaction.proofs.Findings.{can-walk, pair-below, leaves-is, w
 use Rattle.reaction.proofs.react_checked.Statement.{statement}
 use Rattle.reaction.proofs.react_checked.Tie as tie
 
-within-requires : tie.Need-within-requires
-within-requires c κs = search needs
-
 returns : tie.Need-returns
 returns c = only-answer _ (c .before .before .pre) _ _ UnknownState (unknown _ _ (sym (c .before .within .ensures) ∙ not-true _ (c .if1 .taken)))
 
 states-known : (c : tie.Else1) → Known (c .before .before .args .t1 .states) (c .before .before .args .states)
 states-known c = known _ _ (sym (c .before .within .ensures) ∙ not-false _ (c .if1 .left))
-
-within-requires-2 : tie.Need-within-requires-2
-within-requires-2 c κs = search needs
 
 returns-2 : tie.Need-returns-2
 returns-2 c =
@@ -41,9 +35,6 @@ all c = record {
 next-of-states-requires : tie.Need-next-of-states-requires
 next-of-states-requires c κs = can-walk (all (c .before .before))
 
-enum-known-gathered : tie.Need-enum-known-gathered
-enum-known-gathered c = search needs
-
 found : (c : tie.After-known-told) →
     let start = c .before .before .before .before .before .before .before .before .before .before .args in
     let pair = c .before .gathered .given .0 in
@@ -54,12 +45,6 @@ place-in-rows-requires : tie.Need-place-in-rows-requires
 place-in-rows-requires c κs =
     let known = all (c .before .before .before .before .before .before) in
     omega (arith, pair-below known (found c), known .table)
-
-enum-known-gathered-2 : tie.Need-enum-known-gathered-2
-enum-known-gathered-2 c = search needs
-
-difference-requires : tie.Need-difference-requires
-difference-requires c κs = search needs
 
 largest-weight-requires : tie.Need-largest-weight-requires
 largest-weight-requires c κs =
@@ -86,17 +71,6 @@ returns-4 c =
 pub react-checked-spec : {M : Type 1} → statement M
 react-checked-spec =
     tie.close
-    (tie.spec
-    within-requires
-    returns
-    within-requires-2
-    returns-2
-    next-of-states-requires
-    enum-known-gathered
-    place-in-rows-requires
-    enum-known-gathered-2
-    difference-requires
-    largest-weight-requires
-    add-time
-    returns-3
-    returns-4)
+    (tie.spec (λ c κs. search needs) returns (λ c κs. search needs) returns-2 next-of-states-requires
+    (λ c. search needs) place-in-rows-requires (λ c. search needs) (λ c κs. search needs)
+    largest-weight-requires add-time returns-3 returns-4)

@@ -4,11 +4,8 @@ use borrow.Author.Needs.{needs}
 use Rattle.sets.proofs.set_limit.Statement.{statement}
 use Rattle.sets.proofs.set_limit.Tie as tie
 
-shl-result : tie.Need-shl-result
-shl-result c = search needs
-
 returns : tie.Need-returns
 returns c = one-shl (c .args .n) 64 (search needs)
 
 pub set-limit-spec : {M : Type 1} → statement M
-set-limit-spec = tie.close (tie.spec shl-result returns)
+set-limit-spec = tie.close (tie.spec (λ c. search needs) returns)

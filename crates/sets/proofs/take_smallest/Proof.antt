@@ -4,11 +4,8 @@ use borrow.Author.Needs.{needs}
 use Rattle.sets.proofs.take_smallest.Statement.{statement}
 use Rattle.sets.proofs.take_smallest.Tie as tie
 
-sub-t3 : tie.Need-sub-t3
-sub-t3 c = search needs
-
 returns : tie.Need-returns
 returns c = takes-smallest _ (search needs) (search needs)
 
 pub take-smallest-spec : {M : Type 1} → statement M
-take-smallest-spec = tie.close (tie.spec sub-t3 returns)
+take-smallest-spec = tie.close (tie.spec (λ c. search needs) returns)

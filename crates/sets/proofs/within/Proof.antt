@@ -7,9 +7,6 @@ use borrow.Author.Needs.{needs}
 use Rattle.sets.proofs.within.Statement.{statement}
 use Rattle.sets.proofs.within.Tie as tie
 
-set-limit-requires : tie.Need-set-limit-requires
-set-limit-requires c κs = search needs
-
 sub-below : tie.Need-sub-below
 sub-below c = omega (arith, pow-pos (c .before .args .n))
 
@@ -20,4 +17,4 @@ returns : tie.Need-returns
 returns c = rw (c .set-limit .ensures) (counts-within (c .before .args .set) (c .before .args .n))
 
 pub within-spec : {M : Type 1} → statement M
-within-spec = tie.close (tie.spec set-limit-requires sub-below cast-below returns)
+within-spec = tie.close (tie.spec (λ c κs. search needs) sub-below cast-below returns)

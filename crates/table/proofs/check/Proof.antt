@@ -7,21 +7,12 @@ use borrow.Author.Needs.{needs}
 use Rattle.table.proofs.check.Statement.{statement}
 use Rattle.table.proofs.check.Tie as tie
 
-check-counts-requires : tie.Need-check-counts-requires
-check-counts-requires c κs = search needs
-
-enum-told : tie.Need-enum-told
-enum-told c = search needs
-
 returns : tie.Need-returns
 unfolding tableAnswer
 returns c = stops _ (c .before .check-counts .ensures) (c .match .keys2)
 
 check-bound-requires : tie.Need-check-bound-requires
 check-bound-requires c κs = omega (arith, counts-stand _ (let-pass (c .before .before .check-counts .ensures) (c .before .match .keys1)) .0 .fits)
-
-enum-told-2 : tie.Need-enum-told-2
-enum-told-2 c = search needs
 
 returns-2 : tie.Need-returns-2
 unfolding tableAnswer
@@ -51,13 +42,5 @@ returns-3 c =
 pub check-spec : {M : Type 1} → statement M
 check-spec =
     tie.close
-    (tie.spec
-    check-counts-requires
-    enum-told
-    returns
-    check-bound-requires
-    enum-told-2
-    returns-2
-    counts-in-requires
-    check-entries-requires
-    returns-3)
+    (tie.spec (λ c κs. search needs) (λ c. search needs) returns check-bound-requires (λ c. search needs)
+    returns-2 counts-in-requires check-entries-requires returns-3)

@@ -7,21 +7,12 @@ use borrow.Author.Needs.{needs}
 use Rattle.table.proofs.check_bound.Statement.{statement}
 use Rattle.table.proofs.check_bound.Tie as tie
 
-expect-field-requires : tie.Need-expect-field-requires
-expect-field-requires c κs = search needs
-
-enum-told : tie.Need-enum-told
-enum-told c = search needs
-
 returns : tie.Need-returns
 unfolding boundAnswer
 returns c = stops _ (c .before .expect-field .ensures) (c .match .keys2)
 
 number32-requires : tie.Need-number32-requires
 number32-requires c κs = omega (arith, field-stands _ _ _ _ (let-pass (c .before .before .expect-field .ensures) (c .before .match .keys1)) .fits)
-
-or-else-requires : tie.Need-or-else-requires
-or-else-requires c κs = search needs
 
 returns-2 : tie.Need-returns-2
 unfolding boundAnswer
@@ -33,4 +24,5 @@ returns-2 c =
 pub check-bound-spec : {M : Type 1} → statement M
 check-bound-spec =
     tie.close
-    (tie.spec expect-field-requires enum-told returns number32-requires or-else-requires returns-2)
+    (tie.spec (λ c κs. search needs) (λ c. search needs) returns number32-requires (λ c κs. search needs)
+    returns-2)

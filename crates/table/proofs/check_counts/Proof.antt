@@ -7,24 +7,12 @@ use borrow.Author.Needs.{needs}
 use Rattle.table.proofs.check_counts.Statement.{statement}
 use Rattle.table.proofs.check_counts.Tie as tie
 
-expect-field-requires : tie.Need-expect-field-requires
-expect-field-requires c κs = search needs
-
-enum-told : tie.Need-enum-told
-enum-told c = search needs
-
 returns : tie.Need-returns
 unfolding countsAnswer
 returns c = stops _ (c .before .expect-field .ensures) (c .match .keys2)
 
 counts-in-requires : tie.Need-counts-in-requires
 counts-in-requires c κs = omega (arith, field-stands _ _ _ _ (let-pass (c .before .before .expect-field .ensures) (c .before .match .keys1)) .fits)
-
-counts-in-range-requires : tie.Need-counts-in-range-requires
-counts-in-range-requires c κs = search needs
-
-or-else-requires : tie.Need-or-else-requires
-or-else-requires c κs = search needs
 
 returns-2 : tie.Need-returns-2
 unfolding countsAnswer
@@ -36,11 +24,5 @@ returns-2 c =
 pub check-counts-spec : {M : Type 1} → statement M
 check-counts-spec =
     tie.close
-    (tie.spec
-    expect-field-requires
-    enum-told
-    returns
-    counts-in-requires
-    counts-in-range-requires
-    or-else-requires
-    returns-2)
+    (tie.spec (λ c κs. search needs) (λ c. search needs) returns counts-in-requires (λ c κs. search needs)
+    (λ c κs. search needs) returns-2)

@@ -7,27 +7,12 @@ use borrow.Author.Needs.{needs}
 use Rattle.table.proofs.check_entries.Statement.{statement}
 use Rattle.table.proofs.check_entries.Tie as tie
 
-places-of-requires : tie.Need-places-of-requires
-places-of-requires c κs = search needs
-
-cast-check-bytes : tie.Need-cast-check-bytes
-cast-check-bytes c = search needs
-
-check-bytes-requires : tie.Need-check-bytes-requires
-check-bytes-requires c κs = search needs
-
-enum-told : tie.Need-enum-told
-enum-told c = search needs
-
 returns : tie.Need-returns
 unfolding entriesAnswer
 returns c = stops _ (c .before .check-bytes .ensures) (c .match .keys2)
 
 check-bytes-requires-2 : tie.Need-check-bytes-requires-2
 check-bytes-requires-2 c κs = omega (arith, row-stands _ _ _ _ _ _ (let-pass (c .before .before .check-bytes .ensures) (c .before .match .keys1)) .fits)
-
-enum-told-2 : tie.Need-enum-told-2
-enum-told-2 c = search needs
 
 returns-2 : tie.Need-returns-2
 unfolding entriesAnswer
@@ -52,14 +37,5 @@ returns-3 c =
 pub check-entries-spec : {M : Type 1} → statement M
 check-entries-spec =
     tie.close
-    (tie.spec
-    places-of-requires
-    cast-check-bytes
-    check-bytes-requires
-    enum-told
-    returns
-    check-bytes-requires-2
-    enum-told-2
-    returns-2
-    check-holds-requires
-    returns-3)
+    (tie.spec (λ c κs. search needs) (λ c. search needs) (λ c κs. search needs) (λ c. search needs) returns
+    check-bytes-requires-2 (λ c. search needs) returns-2 check-holds-requires returns-3)

@@ -7,34 +7,16 @@ use borrow.Author.Needs.{needs}
 use Rattle.table.proofs.check_holds.Statement.{statement}
 use Rattle.table.proofs.check_holds.Tie as tie
 
-cast-states : tie.Need-cast-states
-cast-states c = search needs
-
-check-words-requires : tie.Need-check-words-requires
-check-words-requires c κs = search needs
-
-enum-told : tie.Need-enum-told
-enum-told c = search needs
-
 returns : tie.Need-returns
 unfolding holdsAnswer
 returns c =
     let found = c .before in
     stops _ (rw (found .before .before .before .pre .0 .hold) at (found .check-words .ensures)) (c .match .keys2)
 
-cast-set-limit : tie.Need-cast-set-limit
-cast-set-limit c = search needs
-
-set-limit-requires : tie.Need-set-limit-requires
-set-limit-requires c κs = search needs
-
 check-words-requires-2 : tie.Need-check-words-requires-2
 check-words-requires-2 c κs =
     let told = c .before .before in
     omega (arith, row-stands _ _ _ _ _ _ (let-pass (told .before .before .check-words .ensures) (told .before .match .keys1)) .fits)
-
-enum-told-2 : tie.Need-enum-told-2
-enum-told-2 c = search needs
 
 returns-2 : tie.Need-returns-2
 unfolding holdsAnswer
@@ -45,9 +27,6 @@ returns-2 c =
     let holds = rw (places .hold) at (told .before .before .check-words .ensures) in
     let delayed = rw (places .delayed, limit .set-limit .ensures) at (c .before .check-words2 .ensures) in
     past holds (told .before .match .keys1) (stops _ delayed (c .match2 .keys2))
-
-or-else-requires : tie.Need-or-else-requires
-or-else-requires c κs = search needs
 
 returns-3 : tie.Need-returns-3
 unfolding holdsAnswer
@@ -64,15 +43,5 @@ returns-3 c =
 pub check-holds-spec : {M : Type 1} → statement M
 check-holds-spec =
     tie.close
-    (tie.spec
-    cast-states
-    check-words-requires
-    enum-told
-    returns
-    cast-set-limit
-    set-limit-requires
-    check-words-requires-2
-    enum-told-2
-    returns-2
-    or-else-requires
-    returns-3)
+    (tie.spec (λ c. search needs) (λ c κs. search needs) (λ c. search needs) returns (λ c. search needs)
+    (λ c κs. search needs) check-words-requires-2 (λ c. search needs) returns-2 (λ c κs. search needs) returns-3)

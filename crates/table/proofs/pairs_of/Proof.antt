@@ -6,12 +6,6 @@ use borrow.Author.Needs.{needs}
 use Rattle.table.proofs.pairs_of.Statement.{statement}
 use Rattle.table.proofs.pairs_of.Tie as tie
 
-cast-result : tie.Need-cast-result
-cast-result c = search needs
-
-cast-result-2 : tie.Need-cast-result-2
-cast-result-2 c = search needs
-
 few : (c : tie.Start) → c .args .c .states * c .args .c .inputs ≤ 32 * 32
 few c = mul-le-mul (c .pre .0) (c .pre .1)
 
@@ -22,4 +16,4 @@ returns : tie.Need-returns
 returns c = omega (arith, few (c .before .before))
 
 pub pairs-of-spec : {M : Type 1} → statement M
-pairs-of-spec = tie.close (tie.spec cast-result cast-result-2 mul-result returns)
+pairs-of-spec = tie.close (tie.spec (λ c. search needs) (λ c. search needs) mul-result returns)

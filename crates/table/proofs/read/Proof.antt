@@ -9,26 +9,11 @@ use Rattle.table.proofs.read.Tie as tie
 counts-in-requires : tie.Need-counts-in-requires
 counts-in-requires c κs = omega (arith, table-stands _ (c .before .pre) .ends)
 
-cast-states : tie.Need-cast-states
-cast-states c = search needs
-
 stands : (c : tie.After-struct-known) → TableStands (c .before .before .before .args .s .now) (c .before .counts-in .result)
 stands c = rw (c .before .counts-in .ensures) (table-stands _ (c .before .before .before .pre))
 
 places-of-requires : tie.Need-places-of-requires
 places-of-requires c κs = let fit = stands c .counts in search needs
-
-cast-t6 : tie.Need-cast-t6
-cast-t6 c = search needs
-
-cast-t7 : tie.Need-cast-t7
-cast-t7 c = search needs
-
-cast-t8 : tie.Need-cast-t8
-cast-t8 c = search needs
-
-cast-t9 : tie.Need-cast-t9
-cast-t9 c = search needs
 
 number32-requires : tie.Need-number32-requires
 number32-requires c κs = omega (arith, stands (c .before .before .before .before .before) .ends)
@@ -65,17 +50,6 @@ returns c =
 pub read-spec : {M : Type 1} → statement M
 read-spec =
     tie.close
-    (tie.spec
-    counts-in-requires
-    cast-states
-    places-of-requires
-    cast-t6
-    cast-t7
-    cast-t8
-    cast-t9
-    number32-requires
-    fill-output-requires
-    fill-next-requires
-    fill-state-requires
-    fill-state-requires-2
-    returns)
+    (tie.spec counts-in-requires (λ c. search needs) places-of-requires (λ c. search needs) (λ c. search needs)
+    (λ c. search needs) (λ c. search needs) number32-requires fill-output-requires fill-next-requires
+    fill-state-requires fill-state-requires-2 returns)

@@ -15,25 +15,10 @@ abbrev μ-loop : tie.MeasureT-loop
 loop-holds : tie.Need-loop-holds Inv-loop μ-loop
 loop-holds c = put-none _ _ (c .before .before .pre)
 
-mul-put-number32 : tie.Need-mul-put-number32 Inv-loop μ-loop
-mul-put-number32 c = search needs
-
-mul-put-number32-2 : tie.Need-mul-put-number32-2 Inv-loop μ-loop
-mul-put-number32-2 c = search needs
-
-shared-slice-read-put-number32 : tie.Need-shared-slice-read-put-number32 Inv-loop μ-loop
-shared-slice-read-put-number32 c = search needs
-
 put-number32-requires : tie.Need-put-number32-requires Inv-loop μ-loop
 put-number32-requires c κs =
     let inv = c .before .before .before .loop .inv in
     omega (arith, put-length _ _ _ _ inv, inv .room, c .before .before .loop-test .taken)
-
-add-k : tie.Need-add-k Inv-loop μ-loop
-add-k c = search needs
-
-loop-less : tie.Need-loop-less Inv-loop μ-loop
-loop-less c = search needs
 
 loop-again : tie.Need-loop-again Inv-loop μ-loop
 loop-again c = put-next _ _ _ _ (c .before .before .before .before .before .before .loop .inv) (c .before .before .before .before .before .loop-test .taken) _ (c .before .before .put-number32 .ensures)
@@ -47,16 +32,5 @@ returns c = put-all _ _ _ _ (c .before .loop .inv) (c .loop-test .left)
 pub put-numbers-spec : {M : Type 1} → statement M
 put-numbers-spec =
     tie.close
-    (tie.spec
-    Inv-loop
-    μ-loop
-    loop-holds
-    mul-put-number32
-    mul-put-number32-2
-    shared-slice-read-put-number32
-    put-number32-requires
-    add-k
-    loop-less
-    loop-again
-    same-length
-    returns)
+    (tie.spec Inv-loop μ-loop loop-holds (λ c. search needs) (λ c. search needs) (λ c. search needs)
+    put-number32-requires (λ c. search needs) (λ c. search needs) loop-again same-length returns)

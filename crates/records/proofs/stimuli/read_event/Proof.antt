@@ -7,14 +7,8 @@ use borrow.Author.Needs.{needs}
 use Rattle.records.proofs.stimuli.read_event.Statement.{statement}
 use Rattle.records.proofs.stimuli.read_event.Tie as tie
 
-stands-requires : tie.Need-stands-requires
-stands-requires c κs = search needs
-
 shared-slice-read-timed-event : tie.Need-shared-slice-read-timed-event
 shared-slice-read-timed-event c = omega (arith, stands-at _ _ _ _ _ (sym (c .before .before .stands .ensures) ∙ c .before .if1 .taken))
-
-add-number32 : tie.Need-add-number32
-add-number32 c = search needs
 
 number32-requires : tie.Need-number32-requires
 number32-requires c κs = omega (arith, stands-at _ _ _ _ _ (sym (c .before .before .stands .ensures) ∙ c .before .if1 .taken))
@@ -25,21 +19,8 @@ timed-event-requires c κs = let low = (stands-at _ _ _ _ _ (sym (c .before .bef
 returns : tie.Need-returns
 returns c = λ states before. c .timed-event .ensures _ _ ∙ stands-timed states _ before _ _ (stands-at _ _ _ _ _ (sym (c .before .before .before .before .stands .ensures) ∙ c .before .before .before .if1 .taken)) _ (c .before .number32 .ensures)
 
-read-other-requires : tie.Need-read-other-requires
-read-other-requires c κs = search needs
-
-returns-2 : tie.Need-returns-2
-returns-2 c = search needs
-
 pub read-event-spec : {M : Type 1} → statement M
 read-event-spec =
     tie.close
-    (tie.spec
-    stands-requires
-    shared-slice-read-timed-event
-    add-number32
-    number32-requires
-    timed-event-requires
-    returns
-    read-other-requires
-    returns-2)
+    (tie.spec (λ c κs. search needs) shared-slice-read-timed-event (λ c. search needs) number32-requires
+    timed-event-requires returns (λ c κs. search needs) (λ c. search needs))

@@ -16,29 +16,8 @@ abbrev μ-loop : tie.MeasureT-loop
 loop-holds : tie.Need-loop-holds Inv-loop μ-loop
 loop-holds c = none-filled _ _ _
 
-add-array : tie.Need-add-array Inv-loop μ-loop
-add-array c = search needs
-
-add-array-2 : tie.Need-add-array-2 Inv-loop μ-loop
-add-array-2 c = search needs
-
-shared-slice-read-array : tie.Need-shared-slice-read-array Inv-loop μ-loop
-shared-slice-read-array c = search needs
-
-slice-write-array : tie.Need-slice-write-array Inv-loop μ-loop
-slice-write-array c = search needs
-
-add-k : tie.Need-add-k Inv-loop μ-loop
-add-k c = search needs
-
-loop-less : tie.Need-loop-less Inv-loop μ-loop
-loop-less c = search needs
-
 loop-again : tie.Need-loop-again Inv-loop μ-loop
 loop-again c = one-filled (c .before .before .loop .inv) (search needs) (search needs) _ refl
-
-same-length : tie.Need-same-length Inv-loop μ-loop
-same-length c = search needs
 
 returns : tie.Need-returns Inv-loop μ-loop
 returns c = all-filled (c .before .loop .inv) (search needs)
@@ -46,16 +25,5 @@ returns c = all-filled (c .before .loop .inv) (search needs)
 pub fill-bytes-spec : {M : Type 1} → statement M
 fill-bytes-spec =
     tie.close
-    (tie.spec
-    Inv-loop
-    μ-loop
-    loop-holds
-    add-array
-    add-array-2
-    shared-slice-read-array
-    slice-write-array
-    add-k
-    loop-less
-    loop-again
-    same-length
-    returns)
+    (tie.spec Inv-loop μ-loop loop-holds (λ c. search needs) (λ c. search needs) (λ c. search needs)
+    (λ c. search needs) (λ c. search needs) (λ c. search needs) loop-again (λ c. search needs) returns)

@@ -14,35 +14,14 @@ Inv-loop s at tag n limit k₀ k = Checking s at tag n (below limit (byteEntry s
 abbrev μ-loop : tie.MeasureT-loop
 μ-loop s at tag n limit k₀ k = n - k
 
-expect-field-requires : tie.Need-expect-field-requires Inv-loop μ-loop
-expect-field-requires c κs = search needs
-
-enum-told : tie.Need-enum-told Inv-loop μ-loop
-enum-told c = search needs
-
 returns : tie.Need-returns Inv-loop μ-loop
 returns c = no-field _ _ _ _ _ _ _ (c .before .expect-field .ensures) (c .match .keys2)
 
 loop-holds : tie.Need-loop-holds Inv-loop μ-loop
 loop-holds c = none-checked _ _ _ _ _ _ _ (c .before .before .expect-field .ensures) (c .before .match .keys1)
 
-add-place : tie.Need-add-place Inv-loop μ-loop
-add-place c = search needs
-
-add-place-2 : tie.Need-add-place-2 Inv-loop μ-loop
-add-place-2 c = search needs
-
-shared-slice-read-if1 : tie.Need-shared-slice-read-if1 Inv-loop μ-loop
-shared-slice-read-if1 c = search needs
-
 returns-2 : tie.Need-returns-2 Inv-loop μ-loop
 returns-2 c = bad-entry (c .before .before .before .loop .inv) (search needs) _ (is-called _ _ _ _ (search needs)) refl
-
-add-k : tie.Need-add-k Inv-loop μ-loop
-add-k c = search needs
-
-loop-less : tie.Need-loop-less Inv-loop μ-loop
-loop-less c = search needs
 
 loop-again : tie.Need-loop-again Inv-loop μ-loop
 loop-again c = good-entry (c .before .before .before .loop .inv) (search needs) (is-below _ _ _ _ (search needs))
@@ -53,18 +32,6 @@ returns-3 c = all-checked (c .before .loop .inv) (search needs)
 pub check-bytes-spec : {M : Type 1} → statement M
 check-bytes-spec =
     tie.close
-    (tie.spec
-    Inv-loop
-    μ-loop
-    expect-field-requires
-    enum-told
-    returns
-    loop-holds
-    add-place
-    add-place-2
-    shared-slice-read-if1
-    returns-2
-    add-k
-    loop-less
-    loop-again
+    (tie.spec Inv-loop μ-loop (λ c κs. search needs) (λ c. search needs) returns loop-holds (λ c. search needs)
+    (λ c. search needs) (λ c. search needs) returns-2 (λ c. search needs) (λ c. search needs) loop-again
     returns-3)

@@ -13,49 +13,16 @@ Inv-loop s at tag n limit k₀ k = Checking s at tag (4 * n) (below limit (wordE
 abbrev μ-loop : tie.MeasureT-loop
 μ-loop s at tag n limit k₀ k = n - k
 
-mul-expect-field : tie.Need-mul-expect-field Inv-loop μ-loop
-mul-expect-field c = search needs
-
-expect-field-requires : tie.Need-expect-field-requires Inv-loop μ-loop
-expect-field-requires c κs = search needs
-
-enum-told : tie.Need-enum-told Inv-loop μ-loop
-enum-told c = search needs
-
 returns : tie.Need-returns Inv-loop μ-loop
 returns c = no-field _ _ _ _ _ _ _ (c .before .expect-field .ensures) (c .match .keys2)
 
 loop-holds : tie.Need-loop-holds Inv-loop μ-loop
 loop-holds c = none-checked _ _ _ _ _ _ _ (c .before .before .expect-field .ensures) (c .before .match .keys1)
 
-add-place : tie.Need-add-place Inv-loop μ-loop
-add-place c = search needs
-
-mul-place : tie.Need-mul-place Inv-loop μ-loop
-mul-place c = search needs
-
-add-place-2 : tie.Need-add-place-2 Inv-loop μ-loop
-add-place-2 c = search needs
-
-number32-requires : tie.Need-number32-requires Inv-loop μ-loop
-number32-requires c κs = search needs
-
-cast-if1 : tie.Need-cast-if1 Inv-loop μ-loop
-cast-if1 c = search needs
-
-bad-word-requires : tie.Need-bad-word-requires Inv-loop μ-loop
-bad-word-requires c κs = search needs
-
 returns-2 : tie.Need-returns-2 Inv-loop μ-loop
 returns-2 c =
     let is = c .bad-word .ensures in
     bad-entry (c .before .before .before .before .loop .inv) (search needs) _ (is ∙ is-called _ _ _ _ (search needs)) (rw is (bad-word-refuses _ _))
-
-add-k : tie.Need-add-k Inv-loop μ-loop
-add-k c = search needs
-
-loop-less : tie.Need-loop-less Inv-loop μ-loop
-loop-less c = search needs
 
 loop-again : tie.Need-loop-again Inv-loop μ-loop
 loop-again c = good-entry (c .before .before .before .loop .inv) (search needs) (is-below _ _ _ _ (search needs))
@@ -66,22 +33,6 @@ returns-3 c = all-checked (c .before .loop .inv) (search needs)
 pub check-words-spec : {M : Type 1} → statement M
 check-words-spec =
     tie.close
-    (tie.spec
-    Inv-loop
-    μ-loop
-    mul-expect-field
-    expect-field-requires
-    enum-told
-    returns
-    loop-holds
-    add-place
-    mul-place
-    add-place-2
-    number32-requires
-    cast-if1
-    bad-word-requires
-    returns-2
-    add-k
-    loop-less
-    loop-again
-    returns-3)
+    (tie.spec Inv-loop μ-loop (λ c. search needs) (λ c κs. search needs) (λ c. search needs) returns loop-holds
+    (λ c. search needs) (λ c. search needs) (λ c. search needs) (λ c κs. search needs) (λ c. search needs)
+    (λ c κs. search needs) returns-2 (λ c. search needs) (λ c. search needs) loop-again returns-3)
