@@ -1,2 +1,3 @@
 pub mod OneMore
 pub mod Running
+pub mod Determined

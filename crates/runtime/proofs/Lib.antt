@@ -2,3 +2,4 @@ pub mod Buffers
 pub mod OneMore
 pub mod Producing
 pub mod Answering
+pub mod Determined
