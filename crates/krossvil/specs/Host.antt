@@ -45,5 +45,8 @@ runTold table stimulus buffer room = told (runtime.replyOf (answerOf (runOf tabl
 unfoldable pub journalAfter : Reply → Made → List ℕ → List ℕ
 journalAfter reply made buffer = if numberIn reply =? 0 then bufferOf made buffer else buffer
 
+abbrev pub runJournal : List ℕ → List ℕ → List ℕ → ℕ → List ℕ
+runJournal table stimulus buffer room = journalAfter (runTold table stimulus buffer room) (runOf table stimulus) buffer
+
 abbrev pub reactionTold : List ℕ → ℕ → ℕ → ℕ → Reply
 reactionTold table P A room = told (reaction.replyOf (reactOf table P A)) room

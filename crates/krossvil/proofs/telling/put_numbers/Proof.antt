@@ -21,7 +21,9 @@ put-number32-requires c κs =
     omega (arith, put-length _ _ _ _ inv, inv .room, c .before .before .loop-test .taken)
 
 loop-again : tie.Need-loop-again Inv-loop μ-loop
-loop-again c = put-next _ _ _ _ (c .before .before .before .before .before .before .loop .inv) (c .before .before .before .before .before .loop-test .taken) _ (c .before .before .put-number32 .ensures)
+loop-again c =
+    let top = c .before .before .before .before .before in
+    put-next _ _ _ _ (c .before .before .before .before .before .before .loop .inv) (top .loop-test .taken) _ (c .before .before .put-number32 .ensures)
 
 same-length : tie.Need-same-length Inv-loop μ-loop
 same-length c = put-length _ _ _ _ (c .before .loop .inv)

@@ -17,7 +17,9 @@ timed-event-requires : tie.Need-timed-event-requires
 timed-event-requires c κs = let low = (stands-at _ _ _ _ _ (sym (c .before .before .before .stands .ensures) ∙ c .before .before .if1 .taken)) .lowest in λ e. omega arith
 
 returns : tie.Need-returns
-returns c = λ states before. c .timed-event .ensures _ _ ∙ stands-timed states _ before _ _ (stands-at _ _ _ _ _ (sym (c .before .before .before .before .stands .ensures) ∙ c .before .before .before .if1 .taken)) _ (c .before .number32 .ensures)
+returns c =
+    λ states before. c .timed-event .ensures _ _ ∙ stands-timed states _ before _ _ (stands-at _ _ _ _ _ (sym
+    (c .before .before .before .before .stands .ensures) ∙ c .before .before .before .if1 .taken)) _ (c .before .number32 .ensures)
 
 pub read-event-spec : {M : Type 1} → statement M
 read-event-spec =
