@@ -1,4 +1,4 @@
-/* A second implementation of the four entries in plain C, written from the build description alone. The library is
+/* A second implementation of the four entries in plain C, written from the rules alone. The library is
  * held against it. Each entry returns 0, or refusal number * 2^32 + place; on success the answer's numbers stand at
  * the start of `answer`, four bytes each, most significant byte first.
  *

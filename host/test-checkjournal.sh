@@ -1,5 +1,5 @@
 #!/usr/bin/env bash
-# Runs the program `checkjournal` on files of every kind that document 01 tells apart, each in a folder of its own, and compares the
+# Runs the program `checkjournal` on files of every kind that docs/RULES.md tells apart, each in a folder of its own, and compares the
 # line that it prints, to the byte. The last line is 'N passed, M failed'; the exit status is 0 if none failed.
 set -euo pipefail
 
@@ -83,7 +83,7 @@ same 'the built-in run has the classroom table' crates/checkjournal/data/table.b
 same 'the built-in run has the classroom journal' crates/checkjournal/data/journal.bin examples/classroom/journal.bin
 same 'the changed verdict has the classroom table' examples/changed-verdict/table.bin examples/classroom/table.bin
 
-# ---- The runs of document 01
+# ---- The runs of the classroom table
 
 fresh
 prints 'the classroom run' 'accepted end=12 cycles=4 moves=2 state=0 output=0'

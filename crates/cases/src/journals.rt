@@ -1,4 +1,4 @@
-// The journal check under the classroom table: the corners that document 01's order of checks settles, and a state that
+// The journal check under the classroom table: the corners that the order of checks settles, and a state that
 // moves to itself.
 use crate::print;
 use crate::samples::CLASSROOM;

@@ -1,5 +1,5 @@
-// Worked examples and corners of document 01, run through the proved entries: each line says what went in and what came out.
-// The file `stdout` holds the answers as the page gives them, and the gate compares. Each entry has a module of its own.
+// Worked examples and corners of docs/RULES.md, run through the proved entries: each line says what went in and what came out.
+// The file `stdout` holds the answers as that page gives them, and the gate compares. Each entry has a module of its own.
 mod journals;
 mod print;
 mod reactions;

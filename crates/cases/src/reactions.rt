@@ -1,4 +1,4 @@
-// The reaction calculator: document 01, "Reaction times", and the filter of document 002.
+// The reaction calculator: docs/RULES.md, "Reaction times" and "Cases".
 use crate::print;
 use crate::samples::CLASSROOM;
 use reaction::Answer;

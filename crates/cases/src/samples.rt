@@ -4,7 +4,7 @@ ghost use lib.ListN.{length};
 
 pub type Room = [u8; 1339];
 
-// The classroom table of document 01, a field to a line.
+// The classroom table, a field to a line.
 pub const CLASSROOM: [u8; 48] = *b"\
     \x01\0\x04\x02\x02\x02\0\
     \x02\0\x04\0\0\0\x03\
@@ -46,7 +46,7 @@ pub fn one_state(inputs: u8, delayed: &[u8; 4]) -> Room
     room
 }
 
-// Q = I = O = 32, and every number the largest that document 01 allows: 1338 bytes.
+// Q = I = O = 32, and every number the largest that is allowed: 1338 bytes.
 pub fn largest() -> Room {
     let mut room = [0u8; 1339];
     fill(&mut room, 0, 7, b"\x01\0\x04\x20\x20\x20\x1F");

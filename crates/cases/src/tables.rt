@@ -1,4 +1,4 @@
-// The table check: document 01, "Bytes", the table, and refusals 1 to 8.
+// The table check: docs/RULES.md, "Bytes", and refusals 1 to 8.
 ghost use Prim.Native.Nat.{_+_, _<_, _≤_};
 use crate::print;
 use crate::samples;

@@ -1,4 +1,4 @@
--- The cases that document 01 marks P, computed.
+-- The cases that specs/Cases lists, computed.
 use mathlib.Core.Path.{refl}
 use Rattle.wire.specs.Encode.{field}
 use Rattle.wire.specs.Field.{fieldAt}

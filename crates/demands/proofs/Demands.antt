@@ -129,7 +129,7 @@ module _ {table journal : List ℕ} {t : Table} {input : ℕ} {records : List Re
 pub accepted-not-too-soon : NotTooSoon
 accepted-not-too-soon table journal t input records T j = not-too-soon t input records T (accepted j)
 
--- The weights of document 01 are large enough.
+-- The calculator's weights are large enough.
 at-least : (b : Bool) (hold E : ℕ) → E ≤ (if b then hold + 2 * E else E)
 at-least true hold E = omega arith
 at-least false hold E = omega arith

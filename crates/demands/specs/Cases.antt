@@ -1,4 +1,4 @@
--- The cases that document 01 marks P, under the classroom table; proofs/Cases proves the one theorem over them.
+-- The cases that are proved (docs/RULES.md, "Cases"), under the classroom table; proofs/Cases proves the one theorem over them.
 use mathlib.Core.Path.{_≡_}
 use mathlib.Core.List.{List, [], _∷_, _++_, map}
 use Prim.Native.Nat.{ℕ}
@@ -63,7 +63,7 @@ stimulus input rs end = records.encode form.stimulus input (map (kept form.stimu
 
 -- ---- What the entries reply
 
--- The answer's numbers in document 01's order, or a refusal's number and place.
+-- The answer's numbers in their order, or a refusal's number and place.
 pub data Reply : Type 0 where
   gives : List ℕ → Reply
   refuses : (number place : ℕ) → Reply
@@ -106,7 +106,7 @@ run s = runReply (runOf classroom s)
 
 -- ---- The table of cases
 
--- What an entry replies, and what document 01 says.
+-- What an entry replies, and what it has to.
 pub record Case : Type 0 where
   pub reply : Reply
   pub expected : Reply

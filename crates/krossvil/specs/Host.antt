@@ -1,4 +1,4 @@
--- What a host program in C gets: document 01, "What is built".
+-- What a host program in C gets: docs/RULES.md, "In C".
 use mathlib.Core.List.{List, [], _∷_, _++_}
 use Prim.Native.Nat.{ℕ, _+_, _*_, _^_}
 use lib.ListN.{length, drop}

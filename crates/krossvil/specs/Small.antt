@@ -1,4 +1,4 @@
--- What fits into one number of 64 bits: a helper of contracts, not of document 01.
+-- What fits into one number of 64 bits: a helper of contracts, no rule.
 use Prim.Native.Nat.{ℕ, _^_, _<_, _≤_}
 use Rattle.wire.specs.Reply.{Reply, numberIn, placeIn}
 

@@ -1,4 +1,4 @@
--- The two lines that document 01 gives for the classroom run and for the same run with a changed verdict.
+-- The two lines of docs/RULES.md, "The classroom": for the run, and for the same run with a changed verdict.
 use mathlib.Core.Path.{_≡_, refl}
 use Rattle.records.specs.declared.Refusal.the-variants.{Differs}
 use Rattle.journal.specs.declared.Answer.the-variants.{Accepted, Refused}

@@ -1,4 +1,4 @@
--- Document 01's reply for each of the calculator's answers.
+-- What the calculator replies: docs/RULES.md, "Reaction times" and "Refusals".
 use mathlib.Core.List.{[], _∷_}
 use Rattle.wire.specs.Reply.{Reply, gives, refuses}
 use Rattle.table.specs.Answer as table

@@ -1,4 +1,4 @@
--- What each answer means, said by membership and without computing it: document 01, "Reaction times" and refusals 9 and 10.
+-- What each answer means, said by membership and without computing it: docs/RULES.md, "Reaction times", and refusals 9 and 10.
 use mathlib.Core.Path.{_≡_}
 use mathlib.Core.Bool.{true, false}
 use mathlib.Core.Logic.{_⊎_}

@@ -1,4 +1,4 @@
--- The reaction calculator: document 01, "Reaction times". P is a set of states and A a set of inputs, each a number.
+-- The reaction calculator: docs/RULES.md, "Reaction times". P is a set of states and A a set of inputs, each a number.
 use mathlib.Core.List.{List}
 use mathlib.Core.Bool.{Bool, not}
 use Prim.Native.Nat.{ℕ, zero, suc, _+_, _*_, _/_, _%_, _^_}

@@ -31,7 +31,7 @@ pub enum Answer {
 }
 
 impl Answer {
-    // The number that document 01 gives to the refusal; 0 where there is none.
+    // The refusal's number; 0 where there is none.
     pub fn number(self) -> u32
         ensures { λ r. ⌜ r ≡ numberIn (replyOf self) ⌝ }
     {

@@ -1,4 +1,4 @@
--- The one-move time of document 01 suffices.
+-- The time for one move suffices.
 use mathlib.Core.Path.{_≡_, refl}
 use mathlib.Core.Bool.{Bool, true, false}
 use Prim.Native.Nat.{ℕ, _+_, _-_}

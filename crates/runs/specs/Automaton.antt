@@ -1,4 +1,5 @@
--- The timed automaton of document 000 (section 3 with Table 1, appendix A), with time in whole ticks.
+-- The timed automaton of report CSI-R9813 (section 3 with Table 1, appendix A), with time in whole ticks.
+-- Where docs/RULES.md, "The machine", differs from the report it decides; each such place is noted.
 use mathlib.Core.Path.{_≡_}
 use mathlib.Core.Logic.{_⊎_, _↔_}
 use mathlib.Core.List.{List, [], _∷_}
@@ -16,7 +17,7 @@ use Rattle.runs.specs.Accepted.{Accepted}
 pub data Configuration : Type 0 where
   at : (i a b q x y z : ℕ) → Configuration
 
--- At first every clock is 0. The report leaves b open; 01 decides: it is the given input too.
+-- At first every clock is 0. The report leaves b open; here it is the given input too.
 abbrev pub initially : Table → ℕ → Configuration
 initially t input = at 0 input input (t .initial) 0 0 0
 
@@ -30,10 +31,10 @@ Invariant t (at i a b q x y z) = z ≤ t .bound
 
 -- Table 1. The label of an edge is a record, which names the polled input, the verdict or the state afterwards too.
 pub data Edge (t : Table) : Configuration → Record → Configuration → Type 0 where
-  -- The report asks c ≠ a. 01 decides: a record that names the present input is a change like any other.
+  -- The report asks c ≠ a. Here a record that names the present input is a change like any other.
   ta-1 : {i a b q x y z c time : ℕ} → Edge t (at i a b q x y z) (Change time c) (at i c b q 0 y z)
   ta-2 : {a b q x y z time : ℕ} → 0 < x → 0 < z → Edge t (at 0 a b q x y z) (Poll time a) (at 1 a a q x y z)
-  -- The report has y < hold here, and y ≥ hold in ta-4. 01 decides: the hold ends when it is passed.
+  -- The report has y < hold, and y ≥ hold in ta-4. Here the hold ends when it is passed.
   ta-3 : {a b q x y z time : ℕ} → y ≤ holdOf t q → 0 < holdOf t q → delays t q b ≡ true →
       Edge t (at 1 a b q x y z) (Test time 0) (at 2 a b q x y z)
   ta-4 : {a b q x y z time : ℕ} → holdOf t q < y → 0 < holdOf t q → delays t q b ≡ true →
@@ -43,7 +44,7 @@ pub data Edge (t : Table) : Configuration → Record → Configuration → Type 
   ta-6 : {a b q x y z time : ℕ} → Edge t (at 2 a b q x y z) (Tick time q) (at 0 a b q x y 0)
   ta-7 : {a b q x y z time : ℕ} → nextOf t q b ≡ q → Edge t (at 3 a b q x y z) (Tick time q) (at 0 a b q x y 0)
   ta-8 : {a b q x y z p time : ℕ} → nextOf t q b ≡ p → (p ≡ q → ⊥) → Edge t (at 3 a b q x y z) (Tick time p) (at 0 a b p x 0 0)
-  -- The report's runs never end. 01 decides: the end may come in every location.
+  -- The report's runs never end. Here the end may come in every location.
   end : {i a b q x y z time : ℕ} → Edge t (at i a b q x y z) (End time) (at i a b q x y z)
 
 -- From c at time `now`: ticks pass until the record's time, the invariant holds to their end, and an edge leads to c′.

@@ -5,7 +5,7 @@ use Prim.Native.Nat.{ℕ, _+_, _-_, _*_, _<_, _≤_}
 use Rattle.table.specs.declared.Table.{Table}
 use Rattle.table.specs.Table.{holdOf, delays, nextOf}
 
--- Weights that are large enough: E in every state, and hold + 2E - 1 where an input of A is delayed. Those of document 01 are.
+-- Weights that are large enough: E in every state, and hold + 2E - 1 where an input of A is delayed. Those of the calculator are.
 pub record Weights (t : Table) (A : ℕ → Bool) (w : ℕ → ℕ) : Type 0 where
   pub plain : (q : ℕ) → t .bound ≤ w q
   pub delayed : (q a : ℕ) → A a ≡ true → 0 < holdOf t q → delays t q a ≡ true → holdOf t q + 2 * t .bound ≤ w q + 1
@@ -23,7 +23,7 @@ pub record Suffices (t : Table) (P A N : ℕ → Bool) (w : ℕ → ℕ) (c : �
   pub reaches : (p : ℕ) → P p ≡ true → Reach t A N w (c + 1 - t .bound) p
   pub covers-bound : t .bound ≤ c
 
--- One move, as document 01 has it: N holds every next(p, a) and nothing outside P, and c is at least E, and at least E + the weight of
+-- One move, as the calculator has it: N holds every next(p, a) and nothing outside P, and c is at least E, and at least E + the weight of
 -- each state in P outside N.
 pub record OneMove (t : Table) (P A N : ℕ → Bool) (w : ℕ → ℕ) (c : ℕ) : Type 0 where
   pub bound-positive : 1 ≤ t .bound

@@ -1,4 +1,4 @@
--- Slots, and demand 3 in slots: document 01, "The machine" and "Reaction times".
+-- Slots, and demand 3 in slots: docs/RULES.md, "Slots" and "Not too soon, not too late".
 use mathlib.Core.Path.{_≡_}
 use mathlib.Core.Logic.{_⊎_}
 use mathlib.Core.List.{List, [], _∷_}

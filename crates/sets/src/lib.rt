@@ -1,4 +1,4 @@
-// Sets as numbers: bit i for member i, as document 01 gives sets of states and of inputs. The bits are handled here alone;
+// Sets of states and of inputs as numbers: bit i for member i. The bits are handled here alone;
 // every contract speaks of members, so that what stands above needs no law of bits.
 ghost use mathlib.Core.Path.{_≡_};
 ghost use Prim.Native.Nat.{_^_, _<_, _≤_};

@@ -1,4 +1,4 @@
--- The table check's replies: document 01, "Numbers given back when something is turned down". And checks one after another.
+-- The table check's replies: docs/RULES.md, "Refusals". And checks one after another.
 use mathlib.Core.List.{[]}
 use mathlib.Core.Bool.{Bool}
 use Rattle.wire.specs.Choice.{_=?_, if_then_else_}

@@ -1,4 +1,4 @@
--- The table check, as document 01 orders it: fields in file order, each for 1, 2, then its content; 8 last.
+-- The table check, in the order of docs/RULES.md, "Refusals": fields in file order, each for 1, 2, then its content; 8 last.
 use mathlib.Core.Path.{_≡_}
 use mathlib.Core.List.{List}
 use mathlib.Core.Bool.{Bool, _&&_}

@@ -1,4 +1,4 @@
--- What a table says, and which tables are well formed: document 01, "Bytes", the table.
+-- What a table says, and which tables are well formed: docs/RULES.md, "Bytes".
 use mathlib.Core.Path.{_≡_}
 use mathlib.Core.List.{List}
 use mathlib.Core.Bool.{Bool, true}

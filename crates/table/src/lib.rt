@@ -1,4 +1,4 @@
-// The table check and the table. The check looks at any bytes, field by field in file order, as document 01 sets down. From bytes
+// The table check and the table. The check looks at any bytes, field by field in file order. From bytes
 // that passed the automaton's table is read as one value; everything above has tables only in this form.
 ghost use mathlib.Core.Path.{_≡_};
 ghost use Prim.Native.Nat.{_+_, _*_, _<_, _≤_};
@@ -73,7 +73,7 @@ struct Places {
 }
 
 impl Answer {
-    // The number that document 01 gives to the refusal; 0 where the table passes.
+    // The refusal's number; 0 where the table passes.
     pub fn number(self) -> u32
         ensures { λ r. ⌜ r ≡ numberIn (replyOf self) ⌝ }
     {

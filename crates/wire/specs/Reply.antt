@@ -1,4 +1,4 @@
--- What an entry replies: the answer's numbers in the order of document 01, or a refusal's number and place.
+-- What an entry replies: the answer's numbers in their order, or a refusal's number and place.
 use mathlib.Core.List.{List, []}
 use Prim.Native.Nat.{ℕ}
 
