@@ -2,12 +2,12 @@
 use mathlib.Core.Path.{_≡_, refl}
 use Rattle.records.specs.declared.Refusal.the-variants.{Differs}
 use Rattle.journal.specs.declared.Answer.the-variants.{Accepted, Refused}
-use Rattle.line.specs.Line.{text, digitsOf, acceptedLine, refusedLine, lineOf}
+use Rattle.line.specs.Line.{text, digitsOf, lineWith, lineFor, lineOf}
 
 pub accepted-line : lineOf (Accepted 12 4 2 0 0) ≡ text "accepted end=12 cycles=4 moves=2 state=0 output=0\n"
-unfolding digitsOf acceptedLine lineOf
+unfolding digitsOf lineWith lineFor
 accepted-line = refl
 
 pub refused-line : lineOf (Refused Differs 76) ≡ text "refused 28 at 76\n"
-unfolding digitsOf refusedLine lineOf
+unfolding digitsOf lineWith lineFor
 refused-line = refl

@@ -1,10 +1,10 @@
 -- Writing into a buffer: a text copied into its part from `at` on, and texts one after the other.
-use mathlib.Core.Path.{_≡_, sym, _∙_}
+use mathlib.Core.Path.{_≡_, sym, ap, _∙_}
 use mathlib.Core.List.{List, [], _++_, append-assoc, append-nil}
 use Prim.Native.Nat.{ℕ, _+_, _-_, _≤_}
 use native.Mathlib.Omega.{arith}
 use lib.ListN.{length, take, drop, length-append, length-take, length-drop, drop-of-length-le}
-use lib.Seq.{length-take-le, take-length, take-all, take-at, drop-append-add, drop-drop}
+use lib.Seq.{take-length, take-all, take-at, drop-at, drop-drop}
 use Rattle.io.specs.Counts.{Counts}
 use Rattle.line.specs.Line.{Puts}
 
@@ -14,32 +14,30 @@ pub puts-copied : (text before : List ℕ) (at : ℕ) → at + length text ≤ l
     Puts text before at (take at before ++ (part ++ drop (length before - at) (drop at before))) (at + count)
 puts-copied text before at room part count counted is =
     let left : length (drop at before) ≤ length before - at = rw length-drop (omega arith) in
-    let all : take (length before - at) (drop at before) ≡ drop at before = take-all (length before - at) (drop at before) left in
-    let none : drop (length before - at) (drop at before) ≡ [] = drop-of-length-le (drop at before) left in
+    let all = take-all (length before - at) (drop at before) left in
+    let none = drop-of-length-le (drop at before) left in
+    let front : length (take at before ++ text) ≡ at + count = simp (length-append, length-take) (omega arith) in
+    let rest = drop (length text) (drop at before) in
+    let after : take at before ++ (part ++ drop (length before - at) (drop at before)) ≡ take at before ++ text ++ rest =
+    rw (none, is, all, append-nil, take-length) (simp append-assoc) in
     record {
-      is = rw (none, is, counted, all, append-nil, take-length, drop-drop (length text) at before) (simp append-assoc);
+      written = rw after (take-at (take at before ++ text) rest (at + count) front);
+      rest = rw after (drop-at (take at before ++ text) rest (at + count) front ∙ rw counted (drop-drop (length text) at before));
       ends = omega arith;
-      fits = omega arith;
     }
 
-module _ {bytes before : List ℕ} {at : ℕ} {after : List ℕ} {end : ℕ} (p : Puts bytes before at after end) where
-  front-long : length (take at before ++ bytes) ≡ end
-  front-long = simp (length-append, length-take) (omega arith)
+-- What is written where a text ended makes one longer text with it.
+pub puts-both : {bytes before : List ℕ} {at : ℕ} {after : List ℕ} {end : ℕ} {more later : List ℕ} {last : ℕ} →
+    Puts bytes before at after end → Puts more after end later last → Puts (bytes ++ more) before at later last
+puts-both {bytes} {before} {at} {after} {end} {more} p q =
+    let further = drop-drop (length more) end in
+    record {
+      written = q .written ∙ rw (p .written) (append-assoc (take at before) bytes more);
+      rest = q .rest ∙ rw (q .ends) (sym (further after) ∙ ap (drop (length more)) (p .rest) ∙ further before);
+      ends = rw length-append (omega arith);
+    }
 
-  puts-long : length after ≡ length before
-  puts-long = rw (p .is) (simp (length-append, length-take, length-drop) (omega arith))
-
-  pub puts-counts : Counts end after
-  puts-counts = let fits : end ≤ length after = omega (arith, puts-long) in (fits, sym (length-take-le end after fits))
-
-  -- What is written where a text ended makes one longer text with it.
-  pub puts-both : {more later : List ℕ} {last : ℕ} → Puts more after end later last → Puts (bytes ++ more) before at later last
-  puts-both {more} {later} {last} q =
-      let front : take end after ≡ take at before ++ bytes = rw (p .is) (take-at (take at before ++ bytes) (drop end before) end front-long) in
-      let rest = drop-append-add (take at before ++ bytes) (drop end before) (length more) in
-      let back : drop last after ≡ drop last before = rw (q .ends, p .is) ((rw front-long at rest) ∙ simp drop-drop) in
-      record {
-        is = q .is ∙ rw (front, back) (simp append-assoc);
-        ends = rw length-append (omega arith);
-        fits = omega (arith, puts-long);
-      }
+pub puts-counts : {bytes before after : List ℕ} {end : ℕ} → Puts bytes before 0 after end → Counts end after
+puts-counts {after = after} {end = end} p =
+    let long : end ≡ length (take end after) = rw (p .written) (omega arith) in
+    (omega (arith, length-take end after), long)

@@ -1,15 +1,17 @@
 -- The line that `checkjournal` prints: docs/RULES.md, "The program".
 use mathlib.Core.Path.{_≡_}
 use mathlib.Core.List.{List, [], _∷_, _++_}
-use Prim.Native.Nat.{ℕ, zero, suc, _+_, _/_, _%_, _≤_}
+use Prim.Native.Nat.{ℕ, zero, suc, _+_, _/_, _%_}
 use Prim.Native.Char.{code}
 use Prim.Native.String as string
 use Prim.Native.String.{String}
 use lib.ListN.{length, take, drop}
-use Rattle.wire.specs.Choice.{_<?_, if_then_else_}
+use Rattle.wire.specs.Choice.{_<?_, _=?_, if_then_else_}
+use Rattle.wire.specs.Reply.{Reply, numberIn, placeIn, valuesIn}
 use Rattle.journal.specs.declared.Answer.{Answer}
-use Rattle.journal.specs.declared.Answer.the-variants.{Accepted, TableRefused, TooLong, Refused}
-use Rattle.journal.specs.Answer.{numberOf, placeOf}
+use Rattle.journal.specs.Answer.{replyOf}
+
+-- ---- Text and numbers
 
 abbrev pub text : String → List ℕ
 text string.[] = []
@@ -26,30 +28,34 @@ digitsOf (suc k) n = if n <? 10 then digit n ∷ [] else digitsOf k (n / 10) ++ 
 abbrev pub decimal : ℕ → List ℕ
 decimal n = digitsOf 20 n
 
-unfoldable pub acceptedLine : (end ticks moves state output : ℕ) → List ℕ
-acceptedLine end ticks moves state output =
-    (text "accepted end=" ++ decimal end)
-    ++ (text " cycles=" ++ decimal ticks)
-    ++ (text " moves=" ++ decimal moves)
-    ++ (text " state=" ++ decimal state)
-    ++ (text " output=" ++ decimal output)
-    ++ text "\n"
+-- ---- Lines
 
-unfoldable pub refusedLine : (number place : ℕ) → List ℕ
-refusedLine number place = (text "refused " ++ decimal number) ++ (text " at " ++ decimal place) ++ text "\n"
+-- Each number after its name, and the line's end.
+unfoldable pub lineWith : List String → List ℕ → List ℕ
+lineWith [] numbers = text "\n"
+lineWith (name ∷ names) [] = text "\n"
+lineWith (name ∷ names) (n ∷ numbers) = text name ++ decimal n ++ lineWith names numbers
 
--- What is turned down is printed by the number and the place of its answer.
-abbrev pub turnedDown : Answer → List ℕ
-turnedDown a = refusedLine (numberOf a) (placeOf a)
+-- The names of what an accepted journal gives, in the reply's order, and those of a refusal's number and place.
+abbrev pub acceptedNames : List String
+acceptedNames = "accepted end=" ∷ " cycles=" ∷ " moves=" ∷ " state=" ∷ " output=" ∷ []
 
-unfoldable pub lineOf : Answer → List ℕ
-lineOf (Accepted end ticks moves state output) = acceptedLine end ticks moves state output
-lineOf (TableRefused answer) = turnedDown (TableRefused answer)
-lineOf TooLong = turnedDown TooLong
-lineOf (Refused refusal place) = turnedDown (Refused refusal place)
+abbrev pub refusedNames : List String
+refusedNames = "refused " ∷ " at " ∷ []
 
--- The bytes stand in a buffer from `at` to `end`; what stands before and after them is as it was.
+-- A success has the number 0.
+unfoldable pub lineFor : Reply → List ℕ
+lineFor reply =
+    if numberIn reply =? 0 then lineWith acceptedNames (valuesIn reply)
+    else lineWith refusedNames (numberIn reply ∷ placeIn reply ∷ [])
+
+abbrev pub lineOf : Answer → List ℕ
+lineOf a = lineFor (replyOf a)
+
+-- ---- Where it is written
+
+-- The bytes are written from `at` to `end`; what stands before and after them is as it was.
 pub record Puts (bytes before : List ℕ) (at : ℕ) (after : List ℕ) (end : ℕ) : Type 0 where
-  pub is : after ≡ take at before ++ bytes ++ drop end before
+  pub written : take end after ≡ take at before ++ bytes
+  pub rest : drop end after ≡ drop end before
   pub ends : end ≡ at + length bytes
-  pub fits : end ≤ length before

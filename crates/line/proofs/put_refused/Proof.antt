@@ -1,47 +1,22 @@
 -- Number, place and line end, one after the other.
 use borrow.Author.Needs.{needs}
-use Rattle.line.specs.Line.{refusedLine}
+use Rattle.line.specs.Line.{lineWith}
 use Rattle.line.proofs.Puts.{puts-both}
 use Rattle.line.proofs.put_refused.Statement.{statement}
 use Rattle.line.proofs.put_refused.Tie as tie
 
-slice-aggregate-put-number : tie.Need-slice-aggregate-put-number
-slice-aggregate-put-number c = search needs
-
-put-number-requires : tie.Need-put-number-requires
-put-number-requires c κs = search needs
-
-slice-aggregate-put-number-2 : tie.Need-slice-aggregate-put-number-2
-slice-aggregate-put-number-2 c = search needs
-
-put-number-requires-2 : tie.Need-put-number-requires-2
-put-number-requires-2 c κs = search needs
-
-slice-aggregate-put-text : tie.Need-slice-aggregate-put-text
-slice-aggregate-put-text c = search needs
-
-put-text-requires : tie.Need-put-text-requires
-put-text-requires c κs = search needs
-
-same-length : tie.Need-same-length
-same-length c = search needs
-
 returns : tie.Need-returns
-unfolding refusedLine
-returns c =
-    let second = c .before .before .before .before .before .before .before in
-    let first = second .before .before .before .before .before in
-    puts-both (puts-both (first .put-number .ensures .0) (second .put-number2 .ensures .0)) (c .before .before .put-text .ensures)
+unfolding lineWith
+returns c = search puts-both
 
 pub put-refused-spec : {M : Type 1} → statement M
 put-refused-spec =
     tie.close
     (tie.spec
-    slice-aggregate-put-number
-    put-number-requires
-    slice-aggregate-put-number-2
-    put-number-requires-2
-    slice-aggregate-put-text
-    put-text-requires
-    same-length
+    (λ c. search needs)
+    (λ c κs. search needs)
+    (λ c. search needs)
+    (λ c κs. search needs)
+    (λ c. search needs)
+    (λ c κs. search needs)
     returns)
