@@ -10,33 +10,28 @@ use lib.ListN.{length}
 use Rattle.wire.specs.Choice.{_<?_, _and_, if_then_else_}
 use Rattle.sets.specs.Sets.{member, some}
 use Rattle.sets.proofs.Members.{some-if}
-use Rattle.table.specs.declared.Answer.the-variants.{Passes}
 use Rattle.table.specs.declared.Table.{Table}
-use Rattle.table.specs.declared.Checked.{Checked}
 use Rattle.table.specs.Table.{outputOf, holdOf, delays, WellFormed}
-use Rattle.table.specs.Check.{checkedOf}
 use Rattle.records.specs.declared.Record.{Record}
 use Rattle.records.specs.declared.Record.the-variants.{End}
+use Rattle.records.specs.Form as form
+use Rattle.records.proofs.Written.{records-are-one, journal-recovers}
 use Rattle.machine.specs.Machine.{start}
-use Rattle.journal.proofs.Answering.{table-passed}
+use Rattle.machine.specs.Run.{ticksOf, movesOf}
+use Rattle.machine.specs.Walk.{inTable}
 use Rattle.reaction.specs.declared.Answer.the-variants.{Reacts}
 use Rattle.reaction.specs.Reaction.{weightOf, weight, reactOf}
 use Rattle.reaction.specs.Meaning.{Known, Slowest, Reaction}
-use Rattle.reaction.proofs.Meaning.{means}
-use Rattle.reaction.proofs.Entry.{on-the-table}
+use Rattle.reaction.proofs.Entry.{entry-means}
 use Rattle.runs.specs.Accepted as runs
 use Rattle.runs.specs.Reaction.{Weights}
 use Rattle.runs.specs.Slots as slots
 use Rattle.runs.proofs.Automaton.{machine-is-automaton}
 use Rattle.runs.proofs.Soon.{not-too-soon}
 use Rattle.runs.proofs.OneMove.{one-move}
-use Rattle.laws.specs.Journals.{JournalOf, AcceptedRun, ticksOf, movesOf}
+use Rattle.laws.specs.Journals.{JournalOf, AcceptedRun}
 use Rattle.laws.proofs.Tables.{holds-that-table}
-use Rattle.laws.proofs.Accepting.{ends-at}
-use Rattle.laws.proofs.Journals.{accepts-exactly, checks-exactly}
-use Rattle.journal.specs.Check.{inTable}
-use Rattle.records.specs.Form as form
-use Rattle.records.proofs.Written.{records-are-one, journal-recovers}
+use Rattle.laws.proofs.Journals.{ends-at, under, accepts-exactly, checks-exactly}
 use Rattle.demands.specs.Demands.{AcceptedIsRun, AcceptedJournal, NotTooSoon, NotTooLate}
 
 -- ---- Acceptance
@@ -47,7 +42,7 @@ run-accepted : {t : Table} {s : List ℕ} {T ticks moves state output : ℕ} (a 
 run-accepted {t} {T = T} a = record {
   last = a .last;
   runs = a .runs;
-  ends = sym (ends-at t (a .last) T (start (t .initial) (a .input)) (a .records) (a .runs));
+  ends = sym (ends-at t T (start (t .initial) (a .input)) (a .last) (a .records) (a .runs));
 }
 
 accepts-run : {t : Table} {s : List ℕ} {T input : ℕ} {before : List Record} →
@@ -105,24 +100,19 @@ accepted-is-run table journal table-bytes bytes T = (
 
 module _ {table journal : List ℕ} {t : Table} {input : ℕ} {records : List Record} {T : ℕ}
     (j : AcceptedJournal table journal t input records T) where
-  abbrev passed : Checked
-  passed = record { answer = Passes; table = t }
-
-  is-passed : passed ≡ checkedOf table
-  is-passed = sym (holds-that-table table t (j .holds .well-formed) (j .holds .table-is))
-
   accepted : runs.Accepted t input records T
   accepted =
       let a = j .accepted in
       let h = j .holds in
-      let answer = table-passed table journal passed is-passed refl ∙ a .answer in
-      let run = accepts-exactly form.journal journal-recovers t journal (j .bytes) T (a .ticks) (a .moves) (a .state) (a .output) .0 answer in
-      let one = records-are-one form.journal (inTable t) (t .inputs) journal _ _ _ _ T T (h .journal-is) (run .written) in
+      let answer = under table journal t (h .well-formed) (h .table-is) ∙ a .answer in
+      let run = accepts-exactly form.journal refl journal-recovers t journal (j .bytes) T (a .ticks) (a .moves) (a .state) (a .output) .0 answer in
+      let one = records-are-one form.journal (inTable form.journal t) (t .inputs) journal _ _ _ _ T T (h .journal-is) (run .written) in
       rw (← one .0, ← one .1, ← h .records-are) at (run-accepted run)
 
   calculated : {P A c target : ℕ} → reactOf table P A ≡ Reacts c target → Reaction t P A c target
   calculated {P} {A} {c} {target} e =
-      means t (j .holds .well-formed) P A (Reacts c target) (sym (on-the-table table passed is-passed refl P A ∙ e))
+      let read = holds-that-table table t (j .holds .well-formed) (j .holds .table-is) in
+      rw (read .1) at (entry-means table (read .0) P A (Reacts c target) (sym e))
 
 -- ---- Demand 3
 

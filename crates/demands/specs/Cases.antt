@@ -3,25 +3,21 @@ use mathlib.Core.Path.{_≡_}
 use mathlib.Core.List.{List, [], _∷_, _++_, map}
 use Prim.Native.Nat.{ℕ}
 use lib.ListN.{length}
-use Rattle.wire.specs.Choice.{_=?_, if_then_else_}
+use Rattle.wire.specs.Reply.{Reply, gives, refuses}
 use Rattle.table.specs.declared.Table.{Table}
-use Rattle.table.specs.Entries.{padded}
+use Rattle.table.specs.Entries.{zeros, padded}
 use Rattle.table.specs.Encode as tables
 use Rattle.records.specs.declared.Record.{Record}
 use Rattle.records.specs.declared.Record.the-variants.{Change, Poll, Test, Tick}
-use Rattle.journal.specs.declared.Answer as journal
-use Rattle.journal.specs.declared.Answer.the-variants as check′
-use Rattle.journal.specs.Answer as check-answer
 use Rattle.records.specs.Form as form
 use Rattle.records.specs.Encode as records
 use Rattle.records.specs.Encode.{kept}
+use Rattle.journal.specs.Answer as journal
 use Rattle.journal.specs.Check.{checkOf}
-use Rattle.reaction.specs.declared.Answer as reaction
-use Rattle.reaction.specs.declared.Answer.the-variants as react′
-use Rattle.reaction.specs.Answer as react-answer
+use Rattle.reaction.specs.Answer as reaction
 use Rattle.reaction.specs.Reaction.{reactOf}
-use Rattle.runtime.specs.Answer as run-answer
-use Rattle.runtime.specs.Run.{Run, journal, refused, runOf}
+use Rattle.runtime.specs.Answer as runtime
+use Rattle.runtime.specs.Run.{runOf, answerOf, bufferOf}
 
 -- ---- The classroom table and its run
 
@@ -63,46 +59,15 @@ stimulus input rs end = records.encode form.stimulus input (map (kept form.stimu
 
 -- ---- What the entries reply
 
--- The answer's numbers in their order, or a refusal's number and place.
-pub data Reply : Type 0 where
-  gives : List ℕ → Reply
-  refuses : (number place : ℕ) → Reply
-
-abbrev pub replied : (number place : ℕ) → List ℕ → Reply
-replied number place values = if number =? 0 then gives values else refuses number place
-
-abbrev pub checkValues : journal.Answer → List ℕ
-checkValues (check′.Accepted end ticks moves state output) = end ∷ ticks ∷ moves ∷ state ∷ output ∷ []
-checkValues (check′.TableRefused answer) = []
-checkValues check′.TooLong = []
-checkValues (check′.Refused refusal place) = []
-
-abbrev pub reactValues : reaction.Answer → List ℕ
-reactValues (react′.Reacts time target) = time ∷ target ∷ []
-reactValues (react′.TableRefused answer) = []
-reactValues react′.UnknownState = []
-reactValues react′.UnknownInput = []
-reactValues (react′.LeavesStates place) = []
-
-abbrev pub checkReply : journal.Answer → Reply
-checkReply a = replied (check-answer.numberOf a) (check-answer.placeOf a) (checkValues a)
-
-abbrev pub reactReply : reaction.Answer → Reply
-reactReply a = replied (react-answer.numberOf a) (react-answer.placeOf a) (reactValues a)
-
-abbrev pub runReply : Run → Reply
-runReply (journal bytes) = gives bytes
-runReply (refused a) = refuses (run-answer.numberOf a) (run-answer.placeOf a)
-
--- The journal check, the calculator with P and A, and the runtime, which gives the journal's bytes.
+-- The journal check; the calculator with P and A; the runtime with a buffer of so many bytes.
 abbrev pub check : List ℕ → Reply
-check s = checkReply (checkOf classroom s)
+check s = journal.replyOf (checkOf classroom s)
 
 abbrev pub react : ℕ → ℕ → Reply
-react P A = reactReply (reactOf classroom P A)
+react P A = reaction.replyOf (reactOf classroom P A)
 
-abbrev pub run : List ℕ → Reply
-run s = runReply (runOf classroom s)
+abbrev pub run : List ℕ → ℕ → Reply
+run s room = runtime.replyOf (answerOf (runOf classroom s) room)
 
 -- ---- The table of cases
 
@@ -138,11 +103,14 @@ cases =
     (react 3 1 is gives (14 ∷ 1 ∷ [])) ∷
     (react 3 2 is gives (6 ∷ 2 ∷ [])) ∷
     (react 2 1 is refuses 10 2) ∷
-    -- the run's stimulus gives the run's journal, byte for byte
-    (run (stimulus 0 (runWith 0) 12) is gives (encode 0 (runWith 0) 12)) ∷ []
+    -- the run's stimulus gives the run's journal
+    (run (stimulus 0 (runWith 0) 12) 123 is gives (123 ∷ [])) ∷ []
 
+-- And the journal stands in the buffer byte for byte.
 abbrev pub CasesHold : Type 0
-CasesHold = map (λ c. c .reply) cases ≡ map (λ c. c .expected) cases
+CasesHold =
+    (map (λ c. c .reply) cases ≡ map (λ c. c .expected) cases)
+    × (bufferOf (runOf classroom (stimulus 0 (runWith 0) 12)) (zeros 123) ≡ encode 0 (runWith 0) 12)
 
 -- The bytes of the classroom table, of its journal and of its stimulus.
 abbrev pub Sizes : Type 0

@@ -1,5 +1,5 @@
 -- The line of an answer, by what the code finds: a refusal's number, or the numbers of a success.
-use mathlib.Core.Path.{_≡_, refl, sym, _∙_}
+use mathlib.Core.Path.{_≡_, refl, sym}
 use mathlib.Core.List.{List, [], _∷_}
 use mathlib.Core.Bool.{false}
 use Prim.Native.Nat.{ℕ}
