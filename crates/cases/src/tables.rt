@@ -23,8 +23,7 @@ pub fn run() {
 fn answer_on(room: Room, n: usize) -> Answer
     requires { ⌜ n ≤ 1339 ⌝ }
 {
-    let checked = table::check(&room[..n]);
-    checked.answer
+    table::check(&room[..n])
 }
 
 fn show(name: &[u8], room: Room, n: usize)

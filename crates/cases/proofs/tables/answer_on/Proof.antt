@@ -5,18 +5,7 @@ use borrow.Author.Needs.{needs}
 use Rattle.cases.proofs.tables.answer_on.Statement.{statement}
 use Rattle.cases.proofs.tables.answer_on.Tie as tie
 
-array-share-prefix-room : tie.Need-array-share-prefix-room
-array-share-prefix-room c = search needs
-
-slice-aggregate-check : tie.Need-slice-aggregate-check
-slice-aggregate-check c = sym (length-take-le _ _ (search needs))
-
-check-requires : tie.Need-check-requires
-check-requires c κs = search needs
-
-returns : tie.Need-returns
-returns c = search needs
-
 pub answer-on-spec : {M : Type 1} → statement M
 answer-on-spec =
-    tie.close (tie.spec array-share-prefix-room slice-aggregate-check check-requires returns)
+    tie.close
+    (tie.spec (λ c. search needs) (λ c. sym (length-take-le _ _ (search needs))) (λ c κs. search needs) (λ c. search needs))
