@@ -15,6 +15,7 @@ use Rattle.table.specs.Table.{outputOf, holdOf, delays, WellFormed}
 use Rattle.records.specs.declared.Record.{Record}
 use Rattle.records.specs.declared.Record.the-variants.{End}
 use Rattle.records.specs.Form as form
+use Rattle.records.specs.Form.{longestJournal}
 use Rattle.records.proofs.Written.{records-are-one, journal-recovers}
 use Rattle.machine.specs.Machine.{start}
 use Rattle.machine.specs.Run.{ticksOf, movesOf}
@@ -46,7 +47,7 @@ run-accepted {t} {T = T} a = record {
 }
 
 accepts-run : {t : Table} {s : List ℕ} {T input : ℕ} {before : List Record} →
-    length s ≤ 65536 → JournalOf t s input before T →
+    length s ≤ longestJournal → JournalOf t s input before T →
     (a : runs.Accepted t input (before ++ End T ∷ []) T) →
     AcceptedRun form.journal t s T (ticksOf before) (movesOf (t .initial) before) (a .last .state) (outputOf t (a .last .state))
 accepts-run {input = input} {before = before} short journal a = record {

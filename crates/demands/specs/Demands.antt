@@ -12,6 +12,7 @@ use Rattle.table.specs.Table.{holdOf, delays, WellFormed}
 use Rattle.table.specs.Encode as tables
 use Rattle.records.specs.declared.Record.{Record}
 use Rattle.records.specs.declared.Record.the-variants.{End}
+use Rattle.records.specs.Form.{longestJournal}
 use Rattle.journal.specs.declared.Answer.the-variants.{Accepted}
 use Rattle.journal.specs.Check.{checkOf}
 use Rattle.reaction.specs.declared.Answer.the-variants.{Reacts}
@@ -40,7 +41,7 @@ pub record Holds (table journal : List ℕ) (t : Table) (input : ℕ) (records :
 
 -- The journal is not too long, and its records are a run of the table's timed automaton ending at T.
 pub record HoldsRun (table journal : List ℕ) (T : ℕ) : Type 0 where
-  pub short : length journal ≤ 65536
+  pub short : length journal ≤ longestJournal
   pub t : Table
   pub input : ℕ
   pub records : List Record
