@@ -65,9 +65,9 @@ build() { # NAME FLAGS
 }
 
 # Runs a built test and adds its counts; one that breaks off, or whose status denies its counts, is a failure more.
-try() { # NAME CASES
+try() { # NAME CASES SEED
     local status last log="$out/$1.log"
-    "${run[@]}" "$out/$1" "$2" "$seed" >"$log" 2>&1
+    "${run[@]}" "$out/$1" "$2" "$3" >"$log" 2>&1
     status=$?
     cat "$log"
     last=$(tail -n 1 "$log")
@@ -85,12 +85,12 @@ try() { # NAME CASES
 
 echo "== differential: $cases cases, seed $seed"
 build differential || stop "did not build"
-try differential "$cases"
+try differential "$cases" "$seed"
 
 if [ "$native" = yes ]; then
-    echo "== with sanitizers: $sanitized_cases cases"
+    echo "== with sanitizers: $sanitized_cases cases, seed $((seed + 1))"
     build sanitized -g -fsanitize=address,undefined -fno-sanitize-recover=all || stop "did not build"
-    try sanitized "$sanitized_cases"
+    try sanitized "$sanitized_cases" "$((seed + 1))"
 fi
 
 if [ "$self" = no ]; then
@@ -107,11 +107,14 @@ if [ "$self" = no ]; then
 
     echo "== the stack that the functions need"
     compile -D_DEFAULT_SOURCE host/stack.c "$library" "${link[@]}" -o "$out/stack" || stop "did not build"
-    try stack 0
+    try stack 0 0
 fi
 
-# Each fault, in a second reference on the library's side. Only a mismatch counts as caught.
+# Each fault, in a second reference on the library's side. Only a mismatch counts as caught. No library: this processor's own compiler.
 echo "== faults: $fault_cases cases each"
+compiler=$own
+link=()
+run=()
 compile -c host/reference.c -o "$out/reference.o" && compile -DSELF -c host/differential.c -o "$out/self.o" ||
     stop "did not build"
 tried=0

@@ -1,12 +1,14 @@
 # To be sourced: how C for x86-64, which is what the library is compiled for, is built and run on this processor.
 #   native    yes on x86-64, else no: then Debian's cross compiler and qemu stand in, installed where they are missing
-#   compiler  the C compiler, and link: words for its linking
+#   compiler  the C compiler for x86-64, and link: words for its linking
+#   own       the C compiler for this processor, for what needs no library
 #   run       words before a program that runs it; emulator: the command that runs one on any processor
 # shellcheck shell=bash disable=SC2034
 
 emulator=qemu-x86_64-static
 native=yes
 compiler=gcc
+own=gcc
 link=()
 run=()
 if [ "$(uname -m)" != x86_64 ]; then
@@ -28,11 +30,14 @@ install_packages() { # PACKAGES
 # What is missing of all that this processor needs.
 install_missing() {
     local missing=()
-    [ "$native" = no ] || return 0
-    command -v "$compiler" >/dev/null || missing+=(gcc-x86-64-linux-gnu)
-    command -v "$emulator" >/dev/null || missing+=(qemu-user-static)
-    case $("$compiler" -print-file-name=libc.a 2>/dev/null) in
-    '' | libc.a) missing+=(libc6-dev-amd64-cross) ;; # no compiler, or it finds no C library
-    esac
+    command -v "$own" >/dev/null && echo 'int main(void) { return 0; }' | "$own" -xc - -o /dev/null 2>/dev/null ||
+        missing+=(gcc libc6-dev)
+    if [ "$native" = no ]; then
+        command -v "$compiler" >/dev/null || missing+=(gcc-x86-64-linux-gnu)
+        command -v "$emulator" >/dev/null || missing+=(qemu-user-static)
+        case $("$compiler" -print-file-name=libc.a 2>/dev/null) in
+        '' | libc.a) missing+=(libc6-dev-amd64-cross) ;; # no compiler, or it finds no C library
+        esac
+    fi
     install_packages "${missing[@]}"
 }
