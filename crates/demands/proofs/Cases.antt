@@ -7,7 +7,7 @@ use Rattle.table.specs.Answer.{_or-else_, _and-then_}
 use Rattle.table.specs.Entries.{entriesFrom, values}
 use Rattle.table.specs.Encode as tables
 use Rattle.table.specs.Encode.{words}
-use Rattle.table.specs.Check.{named, fieldAnswer, rowAnswer, below, badWord, countsAnswer, boundAnswer, holdsAnswer, entriesAnswer}
+use Rattle.table.specs.Check.{named, fieldAnswer, rowAnswer, below, countsAnswer, boundAnswer, holdsAnswer, entriesAnswer}
 use Rattle.table.specs.Check.{tableAnswer, tableOf}
 use Rattle.table.specs.Under.{underTable}
 use Rattle.records.specs.Reading.{lengthFits, knownIn, knownWith, openingIn, openingWith, recordOf, ranged, recordIn, recordAt, itemsFrom, itemsOf}
@@ -23,10 +23,11 @@ use Rattle.runtime.specs.Run.{madeOf, runOf, bufferOf}
 use Rattle.demands.specs.Cases.{CasesHold, Sizes}
 
 pub cases-hold : CasesHold
-unfolding field fieldAt some setOf largest _or-else_ _and-then_ entriesFrom values tables.encode words named fieldAnswer rowAnswer below badWord
+unfolding field fieldAt some setOf largest _or-else_ _and-then_ entriesFrom values tables.encode words named fieldAnswer rowAnswer below
     countsAnswer boundAnswer holdsAnswer entriesAnswer tableAnswer tableOf underTable lengthFits knownIn knownWith openingIn openingWith recordOf
     ranged recordIn recordAt itemsFrom itemsOf bytesOf bytesFrom encode heldBy verdict stateAfter gate step ticksOf movesOf filled walk recordsRun
-    opened runOver journal.answerOf checkOf nextSet weightOf reactionTime firstFrom firstLeaving reactionOf reactOf madeOf runOf runtime.answerOf bufferOf
+    opened runOver journal.answerOf checkOf nextSet weightOf reactionTime firstFrom firstLeaving reactionOf reactOf madeOf runOf runtime.answerOf
+    bufferOf
 cases-hold = (refl, refl)
 
 pub sizes : Sizes
