@@ -61,9 +61,10 @@
  *         machine's                                               start of the field
  *     29  runtime: journal would pass 65,536 bytes                0
  *     30  runtime: buffer shorter than the journal;
- *         any function: answer too short                          0
+ *         any function with an answer: it is too short            0
  *
- * The table's refusals, 1 to 8, come before all others, then 19, then record by record 20 to 28, then 29, then 30.
+ * The table's refusals, 1 to 8, come before all others. Then, of a journal or a stimulus, 19, and field by field 20 to 28; of the
+ * calculator's sets, 9 for the states, 9 for the inputs, 10. Then 29, then 30. The table check has no answer, and gives 1 to 8 only.
  */
 #ifndef KROSSVIL_H
 #define KROSSVIL_H

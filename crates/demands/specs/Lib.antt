@@ -1,2 +1,4 @@
 pub mod Demands
+pub mod Contracts
+pub mod Host
 pub mod Cases

@@ -1,3 +1,13 @@
 // What docs/RULES.md, "The demands", asks of the entries together, from their bytes: acceptance is a run of the timed automaton,
 // demand 3 holds in the slots of every accepted journal, and the proved cases come out. The statements are in specs/, the proofs
-// in proofs/. There is no code.
+// in proofs/. The one function calls the library: its contract is what a host program may rely on.
+ghost use Prim.Native.Nat.{_≤_};
+ghost use lib.ListN.{length};
+ghost use Rattle.demands.specs.Host.{JudgesRuns};
+
+// The journal check as a host program calls it, with an answer buffer that has room for the five numbers.
+pub fn judge(table: &[u8], journal: &[u8], answer: &mut [u8]) -> u64
+    ensures { λ r. ⌜ (20 ≤ length (now (answer .entry)) → JudgesRuns (now (table .entry)) (now (journal .entry)) (now (answer .entry)) r (now (answer .exit))) ⌝ }
+{
+    krossvil::krossvil_check_journal(table, journal, answer)
+}

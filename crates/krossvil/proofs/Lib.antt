@@ -1,4 +1,3 @@
 pub mod TablePlaces
 pub mod Places
 pub mod Outcomes
-pub mod Determined

@@ -160,7 +160,7 @@ module _ (answer : List ℕ) (short : length answer < 4) where
       let same = ap (λ x. told (runtime.replyOf x) (length answer)) is ∙ any-room m room (length buffer) in
       (owed .0 ∙ ap codeOf same, (owed .1 ∙ ap (λ x. answerAfter x answer) same, kept m buffer))
 
-told-fits : (reply : Reply) (room : ℕ) → 4 * length (valuesIn reply) ≤ room → told reply room ≡ reply
+pub told-fits : (reply : Reply) (room : ℕ) → 4 * length (valuesIn reply) ≤ room → told reply room ≡ reply
 unfolding told
 told-fits reply room h = rw (le-ltb room (4 * length (valuesIn reply)) h) refl
 

@@ -1,14 +1,17 @@
 -- The runtime never gives 28: what it turns down is the reader's, or a record that the machine itself completed.
 use mathlib.Core.Path.{_≡_, refl}
-use mathlib.Core.List.{List}
+use mathlib.Core.List.{List, [], _∷_, _++_}
 use mathlib.Core.Bool.{Bool, true, false, not}
 use Prim.Native.Nat.{ℕ, suc, _+_, _*_, _≤_}
 use native.Mathlib.Omega.{arith}
 use borrow.Author.Tests.{eq-eqb}
 use lib.ListN.{length}
 use Rattle.wire.specs.Choice.{_<?_, if_then_else_}
+use Rattle.wire.specs.Encode.{field}
 use Rattle.wire.proofs.Apart.{apart}
 use Rattle.table.specs.declared.Table.{Table}
+use Rattle.table.specs.Check.{tableIn}
+use Rattle.table.proofs.Under.{under-either}
 use Rattle.records.specs.declared.Record.{Record}
 use Rattle.records.specs.declared.Record.the-variants.{Change, Poll, Test, Tick, End}
 use Rattle.records.specs.declared.Refusal.{Refusal}
@@ -17,7 +20,8 @@ use Rattle.records.specs.declared.Opening.{Opening}
 use Rattle.records.specs.declared.Opening.the-variants as opening
 use Rattle.records.specs.Record.{timeOf}
 use Rattle.records.specs.Refusal.{numberOf}
-use Rattle.records.specs.Form.{stimulus}
+use Rattle.records.specs.Form.{longestJournal, journal, stimulus}
+use Rattle.records.specs.Encode.{bytesFrom}
 use Rattle.records.specs.Reading.{Items, item, done, broken, openingOf, itemsOf}
 use Rattle.records.proofs.Places.{OpensWell, opens-well, Within, items-within}
 use Rattle.machine.specs.declared.Machine.{Machine}
@@ -26,9 +30,9 @@ use Rattle.machine.specs.declared.Step.{Step}
 use Rattle.machine.specs.declared.Step.the-variants as step
 use Rattle.machine.specs.Machine.{kindOf, allowed, settled, verdict, stateAfter, agrees, after, gate, through, step, start}
 use Rattle.machine.specs.Walk.{inTable, filled, Walk, ended, stopped, took, onwards, walk, Run, ran, tooLong, refused, ranFrom, recordsRun, opened, runOver}
-use Rattle.runtime.specs.declared.Answer.the-variants.{Refused}
+use Rattle.runtime.specs.declared.Answer.the-variants.{Written, TableRefused, Refused, JournalTooLong, BufferTooShort}
 use Rattle.runtime.specs.Run as runtime
-use Rattle.runtime.specs.Run.{madeOf}
+use Rattle.runtime.specs.Run.{Made, madeOf, runOf, answerOf}
 use Rattle.laws.specs.Runtimes.{NeverDiffers}
 
 -- ---- The machine, on a record that agrees with it
@@ -105,11 +109,27 @@ run-fine t s = go (stimulus .most <? length s)
     go true = tt
     go false = begun (openingOf stimulus (t .inputs) s) (opens-well 0x20 4 4 (t .inputs) s)
 
+module _ (room place : ℕ) where
+  abbrev Never : Made → Type 0
+  Never made = answerOf made room ≡ Refused Differs place → ⊥
+
+  made-never : (r : Run) → FineRun r → Never (madeOf r)
+  unfolding madeOf answerOf
+  made-never (ran input taken last) h e = sized (length (field 0x10 (input ∷ []) ++ bytesFrom journal 0 taken)) e
+    where
+      sized : (size : ℕ) → (if longestJournal <? size then JournalTooLong else if room <? size then BufferTooShort else Written size) ≡ Refused Differs place → ⊥
+      sized size f = go (longestJournal <? size) (room <? size) f
+        where
+          go : (long short : Bool) → (if long then JournalTooLong else if short then BufferTooShort else Written size) ≡ Refused Differs place → ⊥
+          go true short g = apart cc
+          go false true g = apart cc
+          go false false g = apart cc
+  made-never tooLong h e = apart cc
+  made-never (refused refusal p) h e = let same : refusal ≡ Differs = cc in let low : 28 ≤ 27 = rw same at h in omega arith
+
 pub never-differs : NeverDiffers
-unfolding madeOf
-never-differs t s place e = go (runOver stimulus t s) (run-fine t s) e
-  where
-    go : (r : Run) → FineRun r → madeOf r ≡ runtime.refused (Refused Differs place) → ⊥
-    go (ran input taken last) h f = apart cc
-    go tooLong h f = apart cc
-    go (refused refusal p) h f = let same : refusal ≡ Differs = cc in let low : 28 ≤ 27 = rw same at h in omega arith
+unfolding runOf answerOf
+never-differs table s room place =
+    under-either (λ a. runtime.refused (TableRefused a)) (λ t. madeOf (runOver stimulus t s)) table (Never room place)
+    (λ passed. made-never room place (runOver stimulus (tableIn table) s) (run-fine (tableIn table) s))
+    (λ e. apart cc)

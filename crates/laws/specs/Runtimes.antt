@@ -79,10 +79,6 @@ abbrev pub SucceedsExactly : Type 0
 SucceedsExactly = (t : Table) → WellFormed t → (s : List ℕ) → Bytes s → (room size : ℕ) →
     (answerOf (madeUnder t s) room ≡ Written size) ↔ Writable t s room size
 
--- It never gives 28.
-abbrev pub NeverDiffers : Type 0
-NeverDiffers = (t : Table) (s : List ℕ) (place : ℕ) → madeUnder t s ≡ refused (Refused Differs place) → ⊥
-
 -- ---- The entry
 
 -- It succeeds exactly on the bytes of a well-formed table under which the runtime does.
@@ -110,3 +106,7 @@ pub record OnlyJournal (table s j : List ℕ) : Type 0 where
 abbrev pub WritesTheJournal : Type 0
 WritesTheJournal = (table s before : List ℕ) → Bytes table → Bytes s → (size : ℕ) → answerOf (runOf table s) (length before) ≡ Written size →
     OnlyJournal table s (take size (bufferOf (runOf table s) before))
+
+-- It never gives 28.
+abbrev pub NeverDiffers : Type 0
+NeverDiffers = (table s : List ℕ) (room place : ℕ) → answerOf (runOf table s) room ≡ Refused Differs place → ⊥

@@ -4,4 +4,3 @@ pub mod First
 pub mod Meaning
 pub mod Findings
 pub mod Entry
-pub mod Determined

@@ -2,4 +2,3 @@ pub mod Buffers
 pub mod OneMore
 pub mod Producing
 pub mod Answering
-pub mod Determined

@@ -5,4 +5,3 @@ pub mod Stands
 pub mod Reading
 pub mod WellFormed
 pub mod Under
-pub mod Determined

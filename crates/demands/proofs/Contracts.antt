@@ -1,0 +1,109 @@
+-- What specs/Contracts states of the entries.
+use mathlib.Core.Path.{_≡_, refl, sym, ap, _∙_}
+use mathlib.Core.List.{List, [], _∷_}
+use mathlib.Core.Bool.{Bool, true, false}
+use Prim.Native.Nat.{ℕ, _*_}
+use borrow.Author.Tests.{ne-eqb}
+use denote.Ref.{now}
+use lib.ListN.{length}
+use Rattle.wire.specs.Choice.{_<?_, _=?_, if_then_else_}
+use Rattle.wire.specs.Reply.{Reply, gives, refuses, numberIn, valuesIn}
+use Rattle.table.specs.declared.Answer as table′
+use Rattle.table.proofs.Answers.{decided}
+use Rattle.table.specs.Answer as table-answer
+use Rattle.runtime.specs.declared.Answer as runtime′
+use Rattle.runtime.specs.declared.Answer.the-variants as made
+use Rattle.runtime.specs.Answer as run-answer
+use Rattle.runtime.specs.Run.{Made, runOf, answerOf, bufferOf}
+use Rattle.krossvil.specs.Host.{told, codeOf, numberBytes, answerAfter, journalTold, runTold, journalAfter, reactionTold}
+use Rattle.laws.proofs.Never28.{never-differs}
+use Rattle.demands.proofs.Numbered.{table-numbered, refusal-numbered}
+use Rattle.demands.specs.Contracts.{EveryEntryDetermines, EveryRefusalKeeps, RunNeverDiffers}
+
+-- ---- Where the host is not told 0
+-- Where the host is not told 0, the answer buffer is as it was.
+answer-kept : (reply : Reply) (answer : List ℕ) → (codeOf reply ≡ 0 → ⊥) → answerAfter reply answer ≡ answer
+unfolding numberBytes
+answer-kept (gives values) answer other = absurd (other refl)
+answer-kept (refuses number place) answer other = refl
+
+-- And the journal buffer too, since no refusal has number 0.
+abbrev Numbered : Reply → Type 0
+Numbered (gives values) = Unit
+Numbered (refuses number place) = (number =? 0) ≡ false
+
+table-fine : (a : table′.Answer) → Numbered (table-answer.replyOf a)
+table-fine a = decided a (λ e. rw e tt) (λ r other. go (table-answer.replyOf a) (table-numbered a r))
+  where
+    go : (reply : Reply) → (numberIn reply =? 0) ≡ false → Numbered reply
+    go (gives values) h = tt
+    go (refuses number place) h = h
+
+run-numbered : (a : runtime′.Answer) → Numbered (run-answer.replyOf a)
+run-numbered (made.Written size) = tt
+run-numbered (made.TableRefused answer) = table-fine answer
+run-numbered made.TooLong = refl
+run-numbered (made.Refused refusal place) = refusal-numbered refusal
+run-numbered made.JournalTooLong = refl
+run-numbered made.BufferTooShort = refl
+
+told-numbered : (reply : Reply) (room : ℕ) → Numbered reply → Numbered (told reply room)
+unfolding told
+told-numbered reply room h = go (room <? 4 * length (valuesIn reply))
+  where
+    go : (b : Bool) → Numbered (if b then refuses 30 0 else reply)
+    go true = refl
+    go false = h
+
+journal-kept : (reply : Reply) → Numbered reply → (m : Made) (buffer : List ℕ) → (codeOf reply ≡ 0 → ⊥) → journalAfter reply m buffer ≡ buffer
+unfolding journalAfter
+journal-kept (gives values) h m buffer other = absurd (other refl)
+journal-kept (refuses number place) h m buffer other = rw h refl
+
+-- ---- The entries
+
+-- Slices that are left as one another.
+one : {x x′ : List ℕ} → x ≡ x′ → _≡_ {A = List (List ℕ)} (x ∷ []) (x′ ∷ [])
+one e = ap (λ x. x ∷ []) e
+
+two : {x x′ y y′ : List ℕ} → x ≡ x′ → y ≡ y′ → _≡_ {A = List (List ℕ)} (x ∷ y ∷ []) (x′ ∷ y′ ∷ [])
+two e f = rw (e, f) refl
+
+pub every-entry-determines : EveryEntryDetermines
+every-entry-determines = (
+  record { asks-nothing = λ κs a. tt; one-outcome = λ κs a r r′ s s′ p p′. (p ∙ sym p′, refl) },
+  record { asks-nothing = λ κs a. tt; one-outcome = λ κs a r r′ s s′ p p′. (p ∙ sym p′, refl) },
+  record { asks-nothing = λ κs a. tt; one-outcome = λ κs a r r′ s s′ p p′. (p .0 ∙ sym (p′ .0), one (p .1 ∙ sym (p′ .1))) },
+  record { asks-nothing = λ κs a. tt; one-outcome = λ κs a r r′ s s′ p p′. (p ∙ sym p′, refl) },
+  record { asks-nothing = λ κs a. tt; one-outcome = λ κs a r r′ s s′ p p′. (p ∙ sym p′, refl) },
+  record { asks-nothing = λ κs a. tt; one-outcome = λ κs a r r′ s s′ p p′. (p .0 ∙ sym (p′ .0), one (p .1 ∙ sym (p′ .1))) },
+  record {
+    asks-nothing = λ κs a. tt;
+    one-outcome = λ κs a r r′ s s′ p p′. (p .0 ∙ sym (p′ .0), two (p .1 .1 ∙ sym (p′ .1 .1)) (p .1 .0 ∙ sym (p′ .1 .0)));
+  },
+  record { asks-nothing = λ κs a. tt; one-outcome = λ κs a r r′ s s′ p p′. (p .0 ∙ sym (p′ .0), one (p .1 ∙ sym (p′ .1))) },
+)
+
+pub every-refusal-keeps : EveryRefusalKeeps
+unfolding bufferOf
+every-refusal-keeps = (
+  λ κs a r s p other.
+      one (p .1 ∙ rw (ne-eqb _ 0 (λ e. other (ap (λ x. numberIn (run-answer.replyOf x)) (p .0) ∙ e))) refl),
+  λ κs a r s p other.
+      let answer = now (a .1 .1 .0) in
+      one (p .1 ∙ answer-kept (journalTold (now (a .0)) (now (a .1 .0)) (length answer)) answer (λ e. other (p .0 ∙ e))),
+  λ κs a r s p other.
+      let buffer = now (a .1 .1 .0) in
+      let answer = now (a .1 .1 .1 .0) in
+      let made-is = runOf (now (a .0)) (now (a .1 .0)) in
+      let reply = runTold (now (a .0)) (now (a .1 .0)) buffer (length answer) in
+      let numbered = told-numbered (run-answer.replyOf (answerOf made-is (length buffer))) (length answer) (run-numbered (answerOf made-is (length buffer))) in
+      two (p .1 .1 ∙ journal-kept reply numbered made-is buffer (λ e. other (p .0 ∙ e))) (p .1 .0 ∙ answer-kept reply answer (λ e. other (p .0 ∙ e))),
+  λ κs a r s p other.
+      let answer = now (a .1 .1 .1 .0) in
+      one (p .1 ∙ answer-kept (reactionTold (now (a .0)) (a .1 .0) (a .1 .1 .0) (length answer)) answer (λ e. other (p .0 ∙ e))),
+)
+
+pub run-never-differs : RunNeverDiffers
+run-never-differs κs a r s p place e =
+    never-differs (now (a .0)) (now (a .1 .0)) (length (now (a .1 .1 .0))) place (sym (p .0) ∙ e)

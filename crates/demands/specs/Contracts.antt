@@ -1,0 +1,111 @@
+-- What holds of every entry's contract; proofs/Contracts proves it. `Pre` and `Post` are what the clauses say of the arguments, the
+-- result and the exit, where the parameters stand in their order: `.0` is the first, `.1 .0` the second. `now` of a slice is its bytes.
+use mathlib.Core.Path.{_≡_}
+use mathlib.Core.List.{List, [], _∷_}
+use Prim.Native.Nat.{ℕ}
+use borrow.Fn.Kinds.{PK, RK, Dens, In, Out, resT, endedOf}
+use contract.Lifetimes.{Lfts}
+use denote.Ref.{now}
+use denote.Triple.Clauses.{AtExit}
+use Rattle.wire.specs.Reply.{numberIn}
+use Rattle.records.specs.declared.Refusal.the-variants.{Differs}
+use Rattle.runtime.specs.declared.Answer.the-variants.{Refused}
+use Rattle.runtime.specs.Answer.{replyOf}
+use Rattle.table.proofs.check.Kinds as table-kinds
+use Rattle.table.proofs.check.Reads as table
+use Rattle.journal.proofs.check.Kinds as journal-kinds
+use Rattle.journal.proofs.check.Reads as journal
+use Rattle.runtime.proofs.run.Kinds as run-kinds
+use Rattle.runtime.proofs.run.Reads as run
+use Rattle.reaction.proofs.react.Kinds as react-kinds
+use Rattle.reaction.proofs.react.Reads as react
+use Rattle.krossvil.proofs.krossvil_check_table.Kinds as c-table-kinds
+use Rattle.krossvil.proofs.krossvil_check_table.Reads as c-table
+use Rattle.krossvil.proofs.krossvil_check_journal.Kinds as c-journal-kinds
+use Rattle.krossvil.proofs.krossvil_check_journal.Reads as c-journal
+use Rattle.krossvil.proofs.krossvil_run.Kinds as c-run-kinds
+use Rattle.krossvil.proofs.krossvil_run.Reads as c-run
+use Rattle.krossvil.proofs.krossvil_reaction.Kinds as c-reaction-kinds
+use Rattle.krossvil.proofs.krossvil_reaction.Reads as c-reaction
+
+-- A contract, and the bytes of the slices that are lent to be written, as they were and as they are left.
+pub record Contract : Type 1 where
+  pub lifetimes : ℕ
+  pub Args : Lfts lifetimes → Type 0
+  pub Result : Lfts lifetimes → Type 0
+  pub Exit : Lfts lifetimes → Type 0
+  pub Pre : (κs : Lfts lifetimes) → Args κs → Type 0
+  pub Post : (κs : Lfts lifetimes) → Args κs → Result κs → Exit κs → Type 0
+  pub lent : (κs : Lfts lifetimes) → Args κs → List (List ℕ)
+  pub left : (κs : Lfts lifetimes) → Exit κs → List (List ℕ)
+
+abbrev pub entry : (n : ℕ) (ps : List (PK n)) (r : RK n) → In n ps → Out n ps r → ((κs : Lfts n) → Dens κs ps → List (List ℕ)) →
+    ((κs : Lfts n) → AtExit (endedOf n ps r) κs → List (List ℕ)) → Contract
+entry n ps r pre post lent left = record {
+  lifetimes = n;
+  Args = λ κs. Dens κs ps;
+  Result = λ κs. resT r κs .Denot;
+  Exit = AtExit (endedOf n ps r);
+  Pre = pre;
+  Post = post;
+  lent = lent;
+  left = left;
+}
+
+abbrev pub tableCheck : Contract
+tableCheck = entry 1 table-kinds.ps table-kinds.r table.Pre table.Post (λ κs a. []) (λ κs s. [])
+
+abbrev pub journalCheck : Contract
+journalCheck = entry 2 journal-kinds.ps journal-kinds.r journal.Pre journal.Post (λ κs a. []) (λ κs s. [])
+
+abbrev pub runtimeRun : Contract
+runtimeRun = entry 3 run-kinds.ps run-kinds.r run.Pre run.Post (λ κs a. now (a .1 .1 .0) ∷ []) (λ κs s. now (s .1 .1 .0) ∷ [])
+
+abbrev pub reactionReact : Contract
+reactionReact = entry 1 react-kinds.ps react-kinds.r react.Pre react.Post (λ κs a. []) (λ κs s. [])
+
+abbrev pub tableInC : Contract
+tableInC = entry 1 c-table-kinds.ps c-table-kinds.r c-table.Pre c-table.Post (λ κs a. []) (λ κs s. [])
+
+abbrev pub journalInC : Contract
+journalInC = entry 3 c-journal-kinds.ps c-journal-kinds.r c-journal.Pre c-journal.Post (λ κs a. now (a .1 .1 .0) ∷ []) (λ κs s. now (s .1 .1 .0) ∷ [])
+
+abbrev pub runInC : Contract
+runInC =
+    entry 4 c-run-kinds.ps c-run-kinds.r c-run.Pre c-run.Post
+    (λ κs a. now (a .1 .1 .0) ∷ now (a .1 .1 .1 .0) ∷ []) (λ κs s. now (s .1 .1 .0) ∷ now (s .1 .1 .1 .0) ∷ [])
+
+abbrev pub reactionInC : Contract
+reactionInC =
+    entry 2 c-reaction-kinds.ps c-reaction-kinds.r c-reaction.Pre c-reaction.Post
+    (λ κs a. now (a .1 .1 .1 .0) ∷ []) (λ κs s. now (s .1 .1 .1 .0) ∷ [])
+
+-- ---- Every answer is determined
+
+-- The contract asks nothing and allows one outcome: the result, and every lent byte.
+pub record Determines (C : Contract) : Type 0 where
+  pub asks-nothing : (κs : Lfts (C .lifetimes)) (a : C .Args κs) → C .Pre κs a
+  pub one-outcome : (κs : Lfts (C .lifetimes)) (a : C .Args κs) (r r′ : C .Result κs) (s s′ : C .Exit κs) →
+      C .Post κs a r s → C .Post κs a r′ s′ → (r ≡ r′) × (C .left κs s ≡ C .left κs s′)
+
+abbrev pub EveryEntryDetermines : Type 0
+EveryEntryDetermines =
+    Determines tableCheck × Determines journalCheck × Determines runtimeRun × Determines reactionReact
+    × Determines tableInC × Determines journalInC × Determines runInC × Determines reactionInC
+
+-- ---- A refusal changes no lent byte
+
+abbrev pub RefusalKeeps : (C : Contract) → ((κs : Lfts (C .lifetimes)) → C .Result κs → ℕ) → Type 0
+RefusalKeeps C number = (κs : Lfts (C .lifetimes)) (a : C .Args κs) (r : C .Result κs) (s : C .Exit κs) →
+    C .Post κs a r s → (number κs r ≡ 0 → ⊥) → C .left κs s ≡ C .lent κs a
+
+abbrev pub EveryRefusalKeeps : Type 0
+EveryRefusalKeeps =
+    RefusalKeeps runtimeRun (λ κs r. numberIn (replyOf r))
+    × RefusalKeeps journalInC (λ κs r. r) × RefusalKeeps runInC (λ κs r. r) × RefusalKeeps reactionInC (λ κs r. r)
+
+-- ---- The runtime never gives 28
+
+abbrev pub RunNeverDiffers : Type 0
+RunNeverDiffers = (κs : Lfts 3) (a : runtimeRun .Args κs) (r : runtimeRun .Result κs) (s : runtimeRun .Exit κs) → runtimeRun .Post κs a r s →
+    (place : ℕ) → r ≡ Refused Differs place → ⊥
