@@ -1,11 +1,11 @@
 -- What a host is told, as specs/Host states it.
-use mathlib.Core.Path.{_≡_, refl, sym, ap, _∙_}
-use mathlib.Core.List.{List, [], _∷_, _++_}
+use mathlib.Core.Path.{_≡_, refl, ap, _∙_}
+use mathlib.Core.List.{List, [], _∷_}
 use mathlib.Core.Bool.{Bool, true, false}
-use Prim.Native.Nat.{ℕ, _+_, _*_, _^_, _≤_}
+use Prim.Native.Nat.{ℕ, _*_, _≤_}
 use native.Mathlib.Omega.{arith}
 use borrow.Author.Tests.{eqb-false}
-use lib.ListN.{length, drop}
+use lib.ListN.{length}
 use Rattle.wire.specs.Choice.{_<?_, _=?_, if_then_else_}
 use Rattle.wire.specs.Encode.{Bytes}
 use Rattle.wire.specs.Reply.{Reply, gives, refuses, numberIn, valuesIn}
@@ -18,12 +18,11 @@ use Rattle.machine.specs.Walk.{Run, ran, tooLong, refused, runOver}
 use Rattle.journal.specs.declared.Answer.{Answer}
 use Rattle.journal.specs.declared.Answer.the-variants as answer
 use Rattle.journal.specs.Answer.{replyOf}
-use Rattle.journal.specs.Check.{answerOf, answerIn, checkOf}
+use Rattle.journal.specs.Check.{answerOf, checkOf}
 use Rattle.krossvil.specs.Host.{told, codeOf, answerAfter, journalTold}
 use Rattle.krossvil.proofs.Outcomes.{told-fits}
 use Rattle.laws.proofs.Journals.{checks-exactly}
-use Rattle.demands.specs.Demands.{HoldsRun}
-use Rattle.demands.specs.Host.{RunTold, JudgesRuns}
+use Rattle.demands.specs.Host.{JudgesRuns}
 use Rattle.demands.proofs.Numbered.{table-numbered, refusal-numbered}
 use Rattle.demands.proofs.Demands.{accepted-is-run}
 

@@ -1,7 +1,6 @@
 -- No refusal has number 0.
 use mathlib.Core.Path.{_≡_, refl, sym}
 use mathlib.Core.Bool.{false}
-use Prim.Native.Nat.{ℕ}
 use Rattle.wire.specs.Choice.{_=?_}
 use Rattle.wire.specs.Reply.{numberIn}
 use Rattle.wire.proofs.Choice.{never}

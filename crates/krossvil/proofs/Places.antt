@@ -1,6 +1,6 @@
 -- Numbers and places of the other refusals fit too. Of n records the last starts within 8 × n bytes.
 use mathlib.Core.Path.{_≡_, refl}
-use mathlib.Core.List.{List, [], _∷_}
+use mathlib.Core.List.{List, []}
 use mathlib.Core.Bool.{Bool, true, false, not}
 use Prim.Native.Nat.{ℕ, suc, _*_, _^_, _<_, _≤_}
 use native.Mathlib.Nat.{mul-le-mul}

@@ -2,11 +2,10 @@
 use mathlib.Core.Path.{_≡_, refl}
 use mathlib.Core.List.{List, []}
 use mathlib.Core.Bool.{Bool, true, false, _&&_}
-use Prim.Native.Nat.{ℕ, zero, suc, _+_, _*_, _^_, _<_, _≤_}
+use Prim.Native.Nat.{ℕ, zero, suc, _+_, _*_, _<_, _≤_}
 use native.Mathlib.Nat.{mul-le-mul}
 use native.Mathlib.Omega.{arith}
-use lib.ListN.{length}
-use Rattle.wire.specs.Choice.{_≤?_, _=?_, if_then_else_}
+use Rattle.wire.specs.Choice.{_=?_, if_then_else_}
 use Rattle.wire.specs.Field.{fieldAt}
 use Rattle.wire.specs.Reply.{numberIn, placeIn, valuesIn}
 use Rattle.wire.specs.declared.Field.{Field}

@@ -4,7 +4,7 @@ use Prim.Native.Nat.{ℕ, _+_, _*_, _^_}
 use lib.ListN.{length, drop}
 use Rattle.wire.specs.Choice.{_<?_, _=?_, if_then_else_}
 use Rattle.wire.specs.Encode.{bytes32}
-use Rattle.wire.specs.Reply.{Reply, gives, refuses, numberIn, placeIn, valuesIn}
+use Rattle.wire.specs.Reply.{Reply, refuses, numberIn, placeIn, valuesIn}
 use Rattle.journal.specs.Answer as journal
 use Rattle.journal.specs.Check.{checkOf}
 use Rattle.runtime.specs.Answer as runtime

@@ -5,7 +5,6 @@ use mathlib.Core.Bool.{true}
 use Prim.Native.Nat.{ℕ, _+_}
 use native.Mathlib.Omega.{arith}
 use borrow.Author.Tests.{eq-eqb}
-use Rattle.wire.specs.Choice.{_=?_, if_then_else_}
 use Rattle.wire.specs.Encode.{Bytes}
 use Rattle.wire.proofs.Apart.{apart}
 use Rattle.table.specs.declared.Table.{Table}

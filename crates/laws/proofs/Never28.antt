@@ -14,7 +14,6 @@ use Rattle.table.specs.Check.{tableIn}
 use Rattle.table.proofs.Under.{under-either}
 use Rattle.records.specs.declared.Record.{Record}
 use Rattle.records.specs.declared.Record.the-variants.{Change, Poll, Test, Tick, End}
-use Rattle.records.specs.declared.Refusal.{Refusal}
 use Rattle.records.specs.declared.Refusal.the-variants.{TimeFalls, PastBound, WrongPhase, Unsettled, Differs}
 use Rattle.records.specs.declared.Opening.{Opening}
 use Rattle.records.specs.declared.Opening.the-variants as opening

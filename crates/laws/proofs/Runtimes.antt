@@ -23,11 +23,11 @@ use Rattle.records.specs.Record.{timeOf, isEnd, latest}
 use Rattle.records.specs.Form as form
 use Rattle.records.specs.Form.{longestJournal, longestStimulus}
 use Rattle.records.specs.Encode.{bytesFrom, encode, kept, Writable, Inner}
-use Rattle.records.proofs.Written.{records-are-one, stimulus-recovers}
+use Rattle.records.proofs.Written.{stimulus-recovers}
 use Rattle.machine.specs.declared.Machine.{Machine}
 use Rattle.machine.specs.Machine.{start, agrees, after}
 use Rattle.machine.specs.Run.{Runs, ticks, ticksOf, movesOf}
-use Rattle.machine.specs.Walk.{inTable, completed, Run, ran, tooLong, runOver}
+use Rattle.machine.specs.Walk.{inTable, Run, ran, tooLong, runOver}
 use Rattle.machine.specs.Walk as walk
 use Rattle.machine.proofs.Steps.{step-taken, Fits, fits-after, start-fits}
 use Rattle.machine.proofs.Walk.{completed-in-range}

@@ -16,7 +16,7 @@ use Rattle.records.specs.Form as form
 use Rattle.records.specs.Form.{longestJournal, longestStimulus}
 use Rattle.records.specs.Encode.{encode, kept, WrittenAs}
 use Rattle.runtime.specs.declared.Answer.the-variants.{Written, Refused}
-use Rattle.runtime.specs.Run.{journal, refused, madeUnder, runOf, answerOf, bufferOf}
+use Rattle.runtime.specs.Run.{journal, madeUnder, runOf, answerOf, bufferOf}
 use Rattle.machine.specs.Run.{ticksOf}
 use Rattle.machine.specs.Walk.{inTable}
 use Rattle.laws.specs.Journals.{JournalOf}
