@@ -1,4 +1,3 @@
 pub mod Buffers
-pub mod OneMore
 pub mod Producing
 pub mod Answering

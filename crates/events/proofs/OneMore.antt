@@ -22,9 +22,9 @@ use Rattle.machine.specs.declared.Step.the-variants as step
 use Rattle.machine.specs.Machine.{step}
 use Rattle.machine.specs.Walk.{inTable, filled}
 use Rattle.machine.specs.Turn.{turned, turn}
-use Rattle.runtime.specs.declared.After.{After}
-use Rattle.runtime.specs.declared.After.the-variants.{Refused}
-use Rattle.runtime.specs.Filling.{journalTag, journalValue, onwardTo, endedWith, afterTurn}
+use Rattle.events.specs.declared.After.{After}
+use Rattle.events.specs.declared.After.the-variants.{Refused}
+use Rattle.events.specs.After.{journalTag, journalValue, onwardTo, endedWith, afterTurn}
 
 onward-turn : (at : ℕ) (r : Record) → isEnd r ≡ false → (a : Step) →
     onwardTo a (journalTag r) (journalValue r) (at + sizeOf stimulus r) ≡ afterTurn at (turned r a)
