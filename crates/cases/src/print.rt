@@ -5,8 +5,14 @@ pub fn text(words: &[u8]) {
     io::write_all(STDOUT_FILENO, words);
 }
 
-pub fn number(n: u64) {
+// A number after what it is.
+pub fn number(words: &[u8], n: u64) {
+    text(words);
     io::print_decimal(STDOUT_FILENO, n);
+}
+
+pub fn end_line() {
+    text(b"\n");
 }
 
 // The end of a line: the refusal and its place; refusal 0 means that it passes.
@@ -15,9 +21,7 @@ pub fn verdict(refusal: u32, place: usize) {
         text(b": passes\n");
         return;
     }
-    text(b": refused ");
-    number(refusal as u64);
-    text(b" at ");
-    number(place as u64);
-    text(b"\n");
+    number(b": refused ", refusal as u64);
+    number(b" at ", place as u64);
+    end_line();
 }

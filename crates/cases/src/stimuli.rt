@@ -1,109 +1,47 @@
-// The runtime under the classroom table: the same corners, the journal that it writes, and the bytes that it leaves.
+// The runtime: docs/RULES.md. The same refusals, the journal that it writes, and the bytes that it leaves.
 use crate::journals;
 use crate::print;
-use crate::samples::CLASSROOM;
 use runtime::Answer;
+use spelling::filled;
+use spelling::words;
+use spelling::words::Reading;
 
-// What journals::SELF_LOOP leaves when the polled inputs, the verdicts and the states are taken out.
-const SELF_LOOP: [u8; 90] = *b"\
-    \x20\0\x01\0\
-    \x21\0\x05\0\0\0\x01\x01\
-    \x22\0\x04\0\0\0\x02\
-    \x23\0\x04\0\0\0\x02\
-    \x24\0\x04\0\0\0\x03\
-    \x22\0\x04\0\0\0\x04\
-    \x23\0\x04\0\0\0\x05\
-    \x24\0\x04\0\0\0\x06\
-    \x21\0\x05\0\0\0\x07\0\
-    \x22\0\x04\0\0\0\x08\
-    \x23\0\x04\0\0\0\x09\
-    \x24\0\x04\0\0\0\x09\
-    \x2F\0\x04\0\0\0\x0A";
-
-pub fn run() {
-    print::text(b"Runtime\n");
-    first_fields();
-    later_fields();
-    show(b"more than 57,344 bytes", &[0; 57345]);
-    self_loop();
+// The line's first word is the room for the journal, in bytes.
+pub fn run(line: &[u8], table: &[u8], records: &[u8], and_check: bool) -> bool {
+    let space = words::word_length(line);
+    let Reading::Number(limit) = words::number(words::before(line, space)) else {
+        return false;
+    };
+    let case = words::after(line, space);
+    let mut room = [0u8; 65537];
+    let Reading::Number(size) = spelling::of_case(case, records, &mut room) else {
+        return false;
+    };
+    print::text(spelling::name(case));
+    let mut journal = [0u8; 65537];
+    let length = show(run_within(table, filled(&room, size), &mut journal, limit));
+    if and_check {
+        print::text(b"its journal");
+        journals::show(journal::check(table, filled(&journal, length)));
+    }
+    true
 }
 
-fn first_fields() {
-    show(b"no bytes", b"");
-    show(b"opening and end at 0", b"\x20\0\x01\0\x2F\0\x04\0\0\0\0");
-    show(b"no end field", b"\x20\0\x01\0");
-    show(b"a torn field of unknown tag", b"\x20\0\x01\0\x77\0\x05\0");
-    show(b"the end field first", b"\x2F\0\x04\0\0\0\0");
-    show(
-        b"an opening of a journal",
-        b"\x10\0\x01\0\x2F\0\x04\0\0\0\0",
-    );
-    show(
-        b"an opening of length 2",
-        b"\x20\0\x02\0\0\x2F\0\x04\0\0\0\0",
-    );
-    show(
-        b"an input that the table has not",
-        b"\x20\0\x01\x02\x2F\0\x04\0\0\0\0",
-    );
+// With room for `limit` bytes of journal, or for as many as there are.
+fn run_within(table: &[u8], stimulus: &[u8], journal: &mut [u8], limit: usize) -> Answer {
+    if limit < journal.len() {
+        return runtime::run(table, stimulus, &mut journal[0..limit]);
+    }
+    runtime::run(table, stimulus, journal)
 }
 
-fn later_fields() {
-    show(
-        b"a second opening",
-        b"\x20\0\x01\0\x20\0\x01\x09\x2F\0\x04\0\0\0\0",
-    );
-    show(
-        b"a poll of a journal",
-        b"\x20\0\x01\0\x12\0\x05\0\0\0\x01\0\x2F\0\x04\0\0\0\x01",
-    );
-    show(b"a byte after the end", b"\x20\0\x01\0\x2F\0\x04\0\0\0\0\0");
-    show(
-        b"a late end, and a byte after it",
-        b"\x20\0\x01\0\x2F\0\x04\0\0\0\x04\0",
-    );
-    show(
-        b"a change at 2,000,000,001",
-        b"\x20\0\x01\0\x21\0\x05\x77\x35\x94\x01\x01\x2F\0\x04\0\0\0\0",
-    );
-    show(
-        b"a change at 2,000,000,000",
-        b"\x20\0\x01\0\x21\0\x05\x77\x35\x94\0\x01\x2F\0\x04\0\0\0\0",
-    );
-    show(
-        b"a tick in phase 0",
-        b"\x20\0\x01\0\x24\0\x04\0\0\0\x01\x2F\0\x04\0\0\0\x01",
-    );
-    show(
-        b"a poll at 0",
-        b"\x20\0\x01\0\x22\0\x04\0\0\0\0\x2F\0\x04\0\0\0\x01",
-    );
-}
-
-fn show(name: &[u8], bytes: &[u8]) {
-    let mut room = [0; 16];
-    let answer = runtime::run(&CLASSROOM, bytes, &mut room);
-    print::text(name);
-    tell(answer);
-}
-
-// The journal of 99 bytes goes into as many, and the check accepts it; in one byte less it does not fit.
-fn self_loop() {
-    let mut room = [0; 99];
-    print::text(b"a state that moves to itself");
-    tell(runtime::run(&CLASSROOM, &SELF_LOOP, &mut room));
-    journals::show(b"its journal", &room);
-    let mut less = [0; 98];
-    print::text(b"the same, one byte less");
-    tell(runtime::run(&CLASSROOM, &SELF_LOOP, &mut less));
-}
-
-fn tell(answer: Answer) {
+// Gives the journal's length.
+fn show(answer: Answer) -> usize {
     let Answer::Written(length) = answer else {
         print::verdict(answer.number(), answer.place());
-        return;
+        return 0;
     };
-    print::text(b": journal of ");
-    print::number(length as u64);
+    print::number(b": journal of ", length as u64);
     print::text(b" bytes\n");
+    length
 }

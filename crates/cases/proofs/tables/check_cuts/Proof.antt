@@ -1,17 +1,18 @@
--- No length is past the classroom table's 48 bytes.
+-- No length is past the table's.
 use Prim.Native.Nat.{_≤_, _-_}
+use lib.ListN.{length}
 use borrow.Author.Needs.{needs}
-use Rattle.cases.proofs.tables.each_cut.Statement.{statement}
-use Rattle.cases.proofs.tables.each_cut.Tie as tie
+use Rattle.cases.proofs.tables.check_cuts.Statement.{statement}
+use Rattle.cases.proofs.tables.check_cuts.Tie as tie
 
 abbrev Inv-loop : tie.InvT-loop
-Inv-loop from₀ n₀ from n = n ≤ 48
+Inv-loop table from₀ n₀ from n = n ≤ length table
 
 abbrev μ-loop : tie.MeasureT-loop
-μ-loop from₀ n₀ from n = 48 - n
+μ-loop table from₀ n₀ from n = length table - n
 
-pub each-cut-spec : {M : Type 1} → statement M
-each-cut-spec =
+pub check-cuts-spec : {M : Type 1} → statement M
+check-cuts-spec =
     tie.close
     (tie.spec
     Inv-loop
