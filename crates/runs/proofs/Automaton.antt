@@ -12,7 +12,7 @@ use Rattle.machine.specs.Machine.{start, after}
 use Rattle.machine.specs.Run.{Runs}
 use Rattle.machine.proofs.Steps.{Taken, taken-step, verdict-small}
 use Rattle.runs.specs.Automaton.{later, Edge, Run, MachineIsAutomaton}
-use Rattle.runs.proofs.Records.{time-after, first-taken, entry-before}
+use Rattle.runs.proofs.Records.{time-after, first-taken, entry-before, change-before}
 use Rattle.runs.proofs.Edges.{seen, edge, fits}
 
 -- The phase is one of the four, and no instant is later than now.
@@ -27,7 +27,7 @@ SoundAt m now = Sound (m .phase) (m .change) (m .entry) (m .start) now
 
 sound-after : (t : Table) (m : Machine) (r : Record) → SoundAt m (timeOf r) → SoundAt (after t m r) (timeOf r)
 sound-after t m (Change now input) s =
-    record { phase-is = s .phase-is; change-past = omega arith; entry-past = s .entry-past; start-past = s .start-past }
+    record { phase-is = s .phase-is; change-past = change-before m now input (s .change-past); entry-past = s .entry-past; start-past = s .start-past }
 sound-after t m (Poll now input) s =
     record { phase-is = omega arith; change-past = s .change-past; entry-past = s .entry-past; start-past = s .start-past }
 sound-after t m (Test now v) s =

@@ -15,9 +15,10 @@ use Rattle.records.specs.declared.Record.{Record}
 use Rattle.records.specs.declared.Record.the-variants.{Change, Poll, Test, Tick, End}
 use Rattle.records.specs.Record.{timeOf}
 use Rattle.machine.specs.Machine.{kindOf, allowed, settled, heldBy, verdict, stateAfter, agrees, after}
+use Rattle.machine.proofs.Laws.{repeat-leaves, change-counts}
 use Rattle.machine.proofs.Steps.{Taken}
-use Rattle.runs.specs.Automaton.{Configuration, at, Edge, ta-1, ta-2, ta-3, ta-4, ta-5, ta-6, ta-7, ta-8, end}
-use Rattle.runs.proofs.Records.{phases, state-kept, entry-kept, state-next}
+use Rattle.runs.specs.Automaton.{Configuration, at, Edge, ta-1, repeat, ta-2, ta-3, ta-4, ta-5, ta-6, ta-7, ta-8, end}
+use Rattle.runs.proofs.Records.{repeats-or-changes, phases, state-kept, entry-kept, state-next}
 
 -- The machine as the automaton has it at time `now`: the clocks give the time since the instants.
 abbrev inPhase : ℕ → Machine → ℕ → Configuration
@@ -31,6 +32,9 @@ seen m now = inPhase (m .phase) m now
 module _ (t : Table) (m : Machine) (now : ℕ) where
   abbrev Leads : Record → Type 0
   Leads r = Edge t (seen m now) r (seen (after t m r) now)
+
+  change-edge : (input : ℕ) → Leads (Change now input)
+  change-edge input = ⊎-elim (λ x. rw (x .1, x .0) repeat) (λ x. rw (x .1, sub-self now) (ta-1 (x .0))) (repeats-or-changes m now input)
 
   poll-edge : (input : ℕ) → Taken t m (Poll now input) → Leads (Poll now input)
   poll-edge input takes =
@@ -73,7 +77,7 @@ module _ (t : Table) (m : Machine) (now : ℕ) where
           rw (is, e, next, sub-self now, three) (ta-8 refl (λ same. eqb-false _ _ e (next ∙ same)))
 
 pub edge : (t : Table) (m : Machine) (r : Record) → Taken t m r → Leads t m (timeOf r) r
-edge t m (Change now input) takes = rw (sub-self now) ta-1
+edge t m (Change now input) takes = change-edge t m now input
 edge t m (Poll now input) takes = poll-edge t m now input takes
 edge t m (Test now v) takes = test-edge t m now v takes
 edge t m (Tick now state) takes = tick-edge t m now state takes
@@ -119,9 +123,17 @@ module _ (t : Table) (m : Machine) (now : ℕ) where
   tested : (v : ℕ) (c : Configuration) → m .phase ≡ 1 → verdict t m now ≡ v → c ≡ inPhase (2 + v) m now → Fits t m (Test now v) c
   tested v c one is leads = record { in-phase = rw one; is-settled = refl; agreed = eq-eqb v (verdict t m now) (sym is); leads = rw is leads }
 
+changed : (t : Table) (m : Machine) → m .phase < 4 → (now input : ℕ) (c : Configuration) → c ≡ seen (after t m (Change now input)) now →
+    Fits t m (Change now input) c
+changed t m l now input c leads = record { in-phase = every-phase (m .phase) l .0; is-settled = refl; agreed = refl; leads = leads }
+
 pub fits : (t : Table) (m : Machine) → m .phase < 4 → (r : Record) (c c′ : Configuration) → Edge t c r c′ → c ≡ seen m (timeOf r) → Fits t m r c′
-fits t m l r c c′ (ta-1 {time = now}) e =
-    record { in-phase = every-phase (m .phase) l .0; is-settled = refl; agreed = refl; leads = cc (sub-self now) }
+fits t m l r c c′ (ta-1 {a = a} {c = input} {time = now} another) e =
+    let present : m .input ≡ a = cc in
+    changed t m l now input c′ (rw (sym (change-counts m now input (λ same. another (same ∙ present))), sub-self now) (cc))
+fits t m l r c c′ (repeat {a = a} {time = now}) e =
+    let same : a ≡ m .input = cc in
+    changed t m l now a c′ (rw (sym (repeat-leaves m now a same)) (cc))
 fits t m l r c c′ (ta-2 {a = a} {x = x} {z = z} {time = now} x-positive z-positive) e =
     let zero : m .phase ≡ 0 = cc in
     let x-is : x ≡ now - m .change = cc in

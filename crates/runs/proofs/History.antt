@@ -1,5 +1,5 @@
 -- What a machine of a run has behind it: slots that show its state, its input and what it polled.
-use mathlib.Core.Path.{_≡_, refl, ap}
+use mathlib.Core.Path.{_≡_, refl, sym, ap, _∙_}
 use mathlib.Core.Logic.{⊎-elim}
 use mathlib.Core.Bool.{Bool, true, false}
 use Prim.Native.Nat.{ℕ, _+_, _-_, _<_, _≤_}
@@ -15,7 +15,7 @@ use Rattle.records.specs.declared.Record.the-variants.{Change, Poll, Test, Tick
 use Rattle.records.specs.Record.{timeOf}
 use Rattle.machine.specs.Machine.{start, heldBy, held, verdict, after}
 use Rattle.machine.proofs.Steps.{Taken}
-use Rattle.runs.proofs.Records.{split, phases, entry-before}
+use Rattle.runs.proofs.Records.{repeats-or-changes, split, phases, entry-before}
 
 -- The polled input was that of a slot of this cycle.
 pub record PolledIn (slots : ℕ → Machine) (polled start now : ℕ) : Type 0 where
@@ -79,7 +79,11 @@ module _ (t : Table) (slots : ℕ → Machine) where
     entered = h .entered;
     begun = h .begun;
     state = h .state;
-    input = λ k l u. absurd (omega arith);
+    -- A repeat leaves what was seen; after a change nothing has been seen yet.
+    input = λ k l u. ⊎-elim
+        (λ x. let since = x .1 in h .input k (omega arith) u ∙ sym (x .0))
+        (λ x. let now = x .1 in absurd (omega arith))
+        (repeats-or-changes m time input);
     polled = h .polled;
     held = h .held;
   }

@@ -1,11 +1,11 @@
 -- What a record says of the machine that takes it, and of the machine after it.
 use mathlib.Core.Path.{_≡_, refl, sym}
-use mathlib.Core.Logic.{_⊎_, inl, inr}
+use mathlib.Core.Logic.{_⊎_, inl, inr, ⊎-elim}
 use mathlib.Core.List.{List, _∷_}
 use mathlib.Core.Bool.{Bool, true, false}
 use Prim.Native.Nat.{ℕ, zero, suc, _<_, _≤_}
 use native.Mathlib.Omega.{arith}
-use borrow.Author.Tests.{leb-true, leb-false, eq-eqb}
+use borrow.Author.Tests.{leb-true, leb-false, eq-eqb, eqb-true, eqb-false}
 use Rattle.wire.specs.Choice.{_≤?_, _=?_, if_then_else_}
 use Rattle.wire.proofs.Choice.{never}
 use Rattle.table.specs.declared.Table.{Table}
@@ -14,9 +14,9 @@ use Rattle.machine.specs.declared.Machine.{Machine}
 use Rattle.records.specs.declared.Record.{Record}
 use Rattle.records.specs.declared.Record.the-variants.{Change, Poll, Test, Tick, End}
 use Rattle.records.specs.Record.{timeOf}
-use Rattle.machine.specs.Machine.{allowed, stateAfter, after}
+use Rattle.machine.specs.Machine.{allowed, stateAfter, lastChange, after}
 use Rattle.machine.specs.Run.{Runs}
-use Rattle.machine.proofs.Laws.{from-phase-3, stays}
+use Rattle.machine.proofs.Laws.{repeat-leaves, change-counts, from-phase-3, stays}
 use Rattle.machine.proofs.Steps.{Taken, step-taken}
 
 pub split : (n k : ℕ) → (n ≤ k) ⊎ (k < n)
@@ -38,6 +38,21 @@ phases (suc zero) = record { poll = λ e. never e; test = λ e. refl; tick = λ 
 phases (suc (suc zero)) = record { poll = λ e. never e; test = λ e. never e; tick = λ e. inl refl }
 phases (suc (suc (suc zero))) = record { poll = λ e. never e; test = λ e. never e; tick = λ e. inr refl }
 phases (suc (suc (suc (suc p)))) = record { poll = λ e. never e; test = λ e. never e; tick = λ e. never e }
+
+-- ---- The change
+
+-- It repeats the present input, and the last change stays; or it names another.
+pub repeats-or-changes : (m : Machine) (time input : ℕ) →
+    ((input ≡ m .input) × (lastChange m time input ≡ m .change)) ⊎ ((input ≡ m .input → ⊥) × (lastChange m time input ≡ time))
+repeats-or-changes m time input = go (input =? m .input) refl
+  where
+    go : (b : Bool) → (input =? m .input) ≡ b →
+        ((input ≡ m .input) × (lastChange m time input ≡ m .change)) ⊎ ((input ≡ m .input → ⊥) × (lastChange m time input ≡ time))
+    go true e = let same = eqb-true input (m .input) e in inl (same, sym (repeat-leaves m time input same))
+    go false e = let another = eqb-false input (m .input) e in inr (another, sym (change-counts m time input another))
+
+pub change-before : (m : Machine) (time input : ℕ) → m .change ≤ time → lastChange m time input ≤ time
+change-before m time input l = ⊎-elim (λ x. rw (x .1) l) (λ x. omega (arith, x .1)) (repeats-or-changes m time input)
 
 module _ (t : Table) (m : Machine) where
   pub time-after : (r : Record) → (after t m r) .time ≡ timeOf r

@@ -31,8 +31,10 @@ Invariant t (at i a b q x y z) = z ≤ t .bound
 
 -- Table 1. The label of an edge is a record, which names the polled input, the verdict or the state afterwards too.
 pub data Edge (t : Table) : Configuration → Record → Configuration → Type 0 where
-  -- The report asks c ≠ a. Here a record that names the present input is a change like any other.
-  ta-1 : {i a b q x y z c time : ℕ} → Edge t (at i a b q x y z) (Change time c) (at i c b q 0 y z)
+  ta-1 : {i a b q x y z c time : ℕ} → (c ≡ a → ⊥) → Edge t (at i a b q x y z) (Change time c) (at i c b q 0 y z)
+  -- No edge of the report's. A card may repeat its reading; that x is reset only when the input changes is the rule of the generalised
+  -- automata (docs/RULES.md, "Sources").
+  repeat : {i a b q x y z time : ℕ} → Edge t (at i a b q x y z) (Change time a) (at i a b q x y z)
   ta-2 : {a b q x y z time : ℕ} → 0 < x → 0 < z → Edge t (at 0 a b q x y z) (Poll time a) (at 1 a a q x y z)
   -- The report has y < hold, and y ≥ hold in ta-4. Here the hold ends when it is passed.
   ta-3 : {a b q x y z time : ℕ} → y ≤ holdOf t q → 0 < holdOf t q → delays t q b ≡ true →
