@@ -1,3 +1,4 @@
+pub mod Verdict
 pub mod Machine
 pub mod Run
 pub mod Walk

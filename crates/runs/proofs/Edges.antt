@@ -1,23 +1,26 @@
 -- A record that the machine takes is an edge of the automaton, and the other way round.
-use mathlib.Core.Path.{_≡_, refl, sym, _∙_}
-use mathlib.Core.Logic.{_⊎_, inl, inr, ⊎-elim}
+use mathlib.Core.Path.{_≡_, refl, sym, ap, _∙_}
+use mathlib.Core.Logic.{⊎-elim}
 use mathlib.Core.Bool.{Bool, true, false}
-use Prim.Native.Nat.{ℕ, zero, suc, _+_, _-_, _<_, _≤_}
+use Prim.Native.Nat.{ℕ, zero, suc, _+_, _-_, _<_}
 use native.Mathlib.Nat.{sub-self}
 use native.Mathlib.Omega.{arith}
-use borrow.Author.Tests.{lt-ltb, le-leb, lt-leb, eq-eqb, ne-eqb, ltb-true, ltb-false, leb-true, leb-false, eqb-true, eqb-false}
-use Rattle.wire.specs.Choice.{_<?_, _≤?_, _=?_, _and_, if_then_else_}
+use borrow.Author.Tests.{lt-ltb, eq-eqb, ne-eqb, ltb-true, eqb-true, eqb-false}
+use Rattle.wire.specs.Choice.{_<?_, _=?_, _and_}
 use Rattle.wire.proofs.Choice.{both}
 use Rattle.table.specs.declared.Table.{Table}
-use Rattle.table.specs.Table.{holdOf, delays}
 use Rattle.machine.specs.declared.Machine.{Machine}
 use Rattle.records.specs.declared.Record.{Record}
 use Rattle.records.specs.declared.Record.the-variants.{Change, Poll, Test, Tick, End}
 use Rattle.records.specs.Record.{timeOf}
-use Rattle.machine.specs.Machine.{kindOf, allowed, settled, heldBy, verdict, stateAfter, agrees, after}
+use Rattle.machine.specs.declared.Rule.{Rule}
+use Rattle.machine.specs.declared.Rule.the-variants.{Running, Passed, NoHold}
+use Rattle.machine.specs.Verdict.{verdictBy}
+use Rattle.machine.specs.Machine.{kindOf, allowed, settled, rule, verdict, stateAfter, agrees, after}
 use Rattle.machine.proofs.Laws.{repeat-leaves, change-counts}
 use Rattle.machine.proofs.Steps.{Taken}
-use Rattle.runs.specs.Automaton.{Configuration, at, Edge, ta-1, repeat, ta-2, ta-3, ta-4, ta-5, ta-6, ta-7, ta-8, end}
+use Rattle.runs.specs.Automaton.{Configuration, at, Open-3, Open-4, Open-5, Edge, ta-1, repeat, ta-2, ta-3, ta-4, ta-5, ta-6, ta-7, ta-8, end}
+use Rattle.runs.proofs.Rules.{by-ta-3, by-ta-4, by-ta-5}
 use Rattle.runs.proofs.Records.{repeats-or-changes, phases, state-kept, entry-kept, state-next}
 
 -- The machine as the automaton has it at time `now`: the clocks give the time since the instants.
@@ -44,20 +47,13 @@ module _ (t : Table) (m : Machine) (now : ℕ) where
       rw (phases (m .phase) .poll (takes .in-phase), eqb-true input (m .input) (takes .agreed)) (ta-2 x z)
 
   test-edge : (v : ℕ) → Taken t m (Test now v) → Leads (Test now v)
-  unfolding verdict heldBy
-  test-edge v takes =
-      rw (eqb-true v (verdict t m now) (takes .agreed), phases (m .phase) .test (takes .in-phase))
-      (go (0 <? hold) refl (delays t (m .state) (m .polled)) refl (now - m .entry ≤? hold) refl)
+  unfolding verdict
+  test-edge v takes = rw (eqb-true v (verdict t m now) (takes .agreed), phases (m .phase) .test (takes .in-phase)) (go (rule t m now) refl)
     where
-      hold : ℕ
-      hold = holdOf t (m .state)
-
-      go : (a : Bool) → (0 <? hold) ≡ a → (b : Bool) → delays t (m .state) (m .polled) ≡ b → (c : Bool) → (now - m .entry ≤? hold) ≡ c →
-          Edge t (inPhase 1 m now) (Test now (if a and b and c then 0 else 1)) (inPhase (2 + (if a and b and c then 0 else 1)) m now)
-      go false ea b eb c ec = let no : hold ≡ 0 = omega (arith, ltb-false 0 hold ea) in ta-5 (inl no)
-      go true ea false eb c ec = ta-5 (inr eb)
-      go true ea true eb true ec = ta-3 (leb-true _ hold ec) (ltb-true 0 hold ea) eb
-      go true ea true eb false ec = ta-4 (leb-false _ hold ec) (ltb-true 0 hold ea) eb
+      go : (x : Rule) → rule t m now ≡ x → Edge t (inPhase 1 m now) (Test now (verdictBy x)) (inPhase (2 + verdictBy x) m now)
+      go Running e = ta-3 (by-ta-3 t m now .0 e)
+      go Passed e = ta-4 (by-ta-4 t m now .0 e)
+      go NoHold e = ta-5 (by-ta-5 t m now .0 e)
 
   tick-edge : (q : ℕ) → Taken t m (Tick now q) → Leads (Tick now q)
   tick-edge q takes = ⊎-elim from-2 (λ three. from-3 three (stateAfter t m =? m .state) refl) (phases (m .phase) .tick (takes .in-phase))
@@ -99,29 +95,19 @@ every-phase (suc (suc zero)) l = (refl, refl)
 every-phase (suc (suc (suc zero))) l = (refl, refl)
 every-phase (suc (suc (suc (suc p)))) l = absurd (omega arith)
 
-module _ (t : Table) (m : Machine) (now : ℕ) where
-  abbrev Delayed : Type 0
-  Delayed = (0 < holdOf t (m .state)) × (delays t (m .state) (m .polled) ≡ true)
+-- What the automaton sees at a test is what the machine has.
+as-seen : {i a b q x y z : ℕ} (m : Machine) (now : ℕ) (P : ℕ → ℕ → ℕ → Type 0) → at i a b q x y z ≡ seen m now → P b q y →
+    P (m .polled) (m .state) (now - m .entry)
+as-seen {b = b} {q = q} {y = y} m now P e h =
+    let b-is : m .polled ≡ b = cc in
+    let q-is : m .state ≡ q = cc in
+    let y-is : now - m .entry ≡ y = cc in
+    rw (b-is, q-is, y-is) h
 
-  hold-running : now - m .entry ≤ holdOf t (m .state) → Delayed → verdict t m now ≡ 0
-  unfolding verdict heldBy
-  hold-running l d = rw (lt-ltb 0 _ (d .0), d .1, le-leb _ _ l)
-
-  hold-passed : holdOf t (m .state) < now - m .entry → Delayed → verdict t m now ≡ 1
-  unfolding verdict heldBy
-  hold-passed l d = rw (lt-ltb 0 _ (d .0), d .1, lt-leb _ _ l)
-
-  no-hold : (holdOf t (m .state) ≡ 0) ⊎ (delays t (m .state) (m .polled) ≡ false) → verdict t m now ≡ 1
-  unfolding verdict heldBy
-  no-hold (inl e) = rw e
-  no-hold (inr e) = rw e (go (0 <? holdOf t (m .state)))
-    where
-      go : (b : Bool) → _≡_ {A = ℕ} (if b and false then 0 else 1) 1
-      go true = refl
-      go false = refl
-
-  tested : (v : ℕ) (c : Configuration) → m .phase ≡ 1 → verdict t m now ≡ v → c ≡ inPhase (2 + v) m now → Fits t m (Test now v) c
-  tested v c one is leads = record { in-phase = rw one; is-settled = refl; agreed = eq-eqb v (verdict t m now) (sym is); leads = rw is leads }
+module _ (t : Table) (m : Machine) (now : ℕ) (c : Configuration) (one : m .phase ≡ 1) where
+  tested : (x : Rule) → rule t m now ≡ x → c ≡ inPhase (2 + verdictBy x) m now → Fits t m (Test now (verdictBy x)) c
+  unfolding verdict
+  tested x is leads = record { in-phase = rw one; is-settled = refl; agreed = eq-eqb (verdictBy x) _ (ap verdictBy (sym is)); leads = rw is leads }
 
 changed : (t : Table) (m : Machine) → m .phase < 4 → (now input : ℕ) (c : Configuration) → c ≡ seen (after t m (Change now input)) now →
     Fits t m (Change now input) c
@@ -144,16 +130,9 @@ fits t m l r c c′ (ta-2 {a = a} {x = x} {z = z} {time = now} x-positive z-posi
       agreed = eq-eqb a (m .input) (cc);
       leads = cc;
     }
-fits t m l r c c′ (ta-3 {q = q} {y = y} {time = now} running some delayed) e =
-    let y-is : y ≡ now - m .entry = cc in
-    let hold : holdOf t q ≡ holdOf t (m .state) = cc in
-    tested t m now 0 c′ (cc) (hold-running t m now (omega arith) (omega arith, cc)) (cc)
-fits t m l r c c′ (ta-4 {q = q} {y = y} {time = now} passed some delayed) e =
-    let y-is : y ≡ now - m .entry = cc in
-    let hold : holdOf t q ≡ holdOf t (m .state) = cc in
-    tested t m now 1 c′ (cc) (hold-passed t m now (omega arith) (omega arith, cc)) (cc)
-fits t m l r c c′ (ta-5 {time = now} none) e =
-    tested t m now 1 c′ (cc) (no-hold t m now (⊎-elim (λ no. inl (cc)) (λ no. inr (cc)) none)) (cc)
+fits t m l r c c′ (ta-3 {time = now} opens) e = tested t m now c′ (cc) Running (by-ta-3 t m now .1 (as-seen m now (Open-3 t) e opens)) (cc)
+fits t m l r c c′ (ta-4 {time = now} opens) e = tested t m now c′ (cc) Passed (by-ta-4 t m now .1 (as-seen m now (Open-4 t) e opens)) (cc)
+fits t m l r c c′ (ta-5 {time = now} opens) e = tested t m now c′ (cc) NoHold (by-ta-5 t m now .1 (as-seen m now (Open-5 t) e opens)) (cc)
 fits t m l r c c′ (ta-6 {q = q} {time = now}) e =
     let two : m .phase ≡ 2 = cc in
     let same = state-kept t m two in

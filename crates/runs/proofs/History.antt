@@ -1,11 +1,11 @@
 -- What a machine of a run has behind it: slots that show its state, its input and what it polled.
 use mathlib.Core.Path.{_≡_, refl, sym, ap, _∙_}
 use mathlib.Core.Logic.{⊎-elim}
-use mathlib.Core.Bool.{Bool, true, false}
+use mathlib.Core.Bool.{true}
 use Prim.Native.Nat.{ℕ, _+_, _-_, _<_, _≤_}
 use native.Mathlib.Omega.{arith}
-use borrow.Author.Tests.{ltb-true, leb-true}
-use Rattle.wire.specs.Choice.{_<?_, if_then_else_}
+use borrow.Author.Tests.{ltb-true}
+use Rattle.wire.specs.Choice.{_<?_}
 use Rattle.wire.proofs.Choice.{both}
 use Rattle.table.specs.declared.Table.{Table}
 use Rattle.table.specs.Table.{holdOf, delays}
@@ -13,8 +13,12 @@ use Rattle.machine.specs.declared.Machine.{Machine}
 use Rattle.records.specs.declared.Record.{Record}
 use Rattle.records.specs.declared.Record.the-variants.{Change, Poll, Test, Tick, End}
 use Rattle.records.specs.Record.{timeOf}
-use Rattle.machine.specs.Machine.{start, heldBy, held, verdict, after}
+use Rattle.machine.specs.declared.Rule.{Rule}
+use Rattle.machine.specs.declared.Rule.the-variants.{Running, Passed, NoHold}
+use Rattle.machine.specs.Verdict.{verdictBy}
+use Rattle.machine.specs.Machine.{start, rule, verdict, after}
 use Rattle.machine.proofs.Steps.{Taken}
+use Rattle.runs.proofs.Rules.{by-ta-3}
 use Rattle.runs.proofs.Records.{repeats-or-changes, split, phases, entry-before}
 
 -- The polled input was that of a slot of this cycle.
@@ -39,16 +43,15 @@ pub record History (t : Table) (slots : ℕ → Machine) (m : Machine) (now : �
   pub held : m .phase ≡ 2 → Holding t (m .state) (m .polled) (m .entry) (m .start)
 
 holding : (t : Table) (m : Machine) (time : ℕ) → m .start < time → 2 + verdict t m time ≡ 2 → Holding t (m .state) (m .polled) (m .entry) (m .start)
-unfolding verdict heldBy
+unfolding verdict
 holding t m time l two =
-    let yes = both (0 <? holdOf t (m .state)) _ (held-by (held t m time) two) in
-    let rest = both (delays t (m .state) (m .polled)) _ (yes .1) in
-    let within : time - m .entry ≤ holdOf t (m .state) = leb-true _ _ (rest .1) in
-    record { some = ltb-true _ _ (yes .0); delayed = rest .0; begun = omega arith }
+    let o = by-ta-3 t m time .0 (held-by (rule t m time) two) in
+    record { some = o .1; delayed = o .2; begun = omega (arith, o .0) }
   where
-    held-by : (b : Bool) → 2 + (if b then 0 else 1) ≡ 2 → b ≡ true
-    held-by true e = refl
-    held-by false e = absurd (omega arith)
+    held-by : (x : Rule) → 2 + verdictBy x ≡ 2 → x ≡ Running
+    held-by Running e = refl
+    held-by Passed e = absurd (omega arith)
+    held-by NoHold e = absurd (omega arith)
 
 module _ (t : Table) (slots : ℕ → Machine) where
   pub at-first : (initial input : ℕ) → History t slots (start initial input) 0

@@ -1,4 +1,5 @@
 pub mod Records
+pub mod Rules
 pub mod Edges
 pub mod Automaton
 pub mod History

@@ -3,25 +3,27 @@ use mathlib.Core.Path.{_≡_, sym, _∙_}
 use mathlib.Core.Logic.{_⊎_, inl, inr, ⊎-elim}
 use mathlib.Core.List.{List, [], _∷_}
 use mathlib.Core.Bool.{Bool, true}
-use Prim.Native.Nat.{ℕ, _+_, _-_, _<_, _≤_}
+use Prim.Native.Nat.{ℕ, _+_, _<_, _≤_}
 use native.Mathlib.Omega.{arith}
-use borrow.Author.Tests.{lt-ltb, le-leb, eqb-true, ne-eqb}
+use borrow.Author.Tests.{eqb-true, ne-eqb}
 use Rattle.table.specs.declared.Table.{Table}
 use Rattle.table.specs.Table.{holdOf, delays}
 use Rattle.machine.specs.declared.Machine.{Machine}
 use Rattle.records.specs.declared.Record.{Record}
 use Rattle.records.specs.declared.Record.the-variants.{Change, Poll, Test, Tick, End}
 use Rattle.records.specs.Record.{timeOf}
-use Rattle.machine.specs.Machine.{start, heldBy, held, verdict, stateAfter, after}
+use Rattle.machine.specs.declared.Rule.the-variants.{Running}
+use Rattle.machine.specs.Machine.{start, rule, verdict, stateAfter, after}
 use Rattle.machine.proofs.Steps.{Taken}
 use Rattle.runs.specs.Slots.{Enters, NotTooSoon}
+use Rattle.runs.proofs.Rules.{by-ta-3}
 use Rattle.runs.proofs.Records.{phases, state-kept, entry-kept}
 use Rattle.runs.proofs.History.{History}
 use Rattle.runs.proofs.Slots.{Along, from-start, taken, onwards, in-slot}
 
 -- What holds the machine in q is left open: since q was entered at e, each test up to k is held that polled an input of D.
 module _ (t : Table) (q e k : ℕ) (D : ℕ → Bool)
-    (holds : (m : Machine) (time : ℕ) → m .state ≡ q → m .entry ≡ e → D (m .polled) ≡ true → e < time → time ≤ k → held t m time ≡ true)
+    (holds : (m : Machine) (time : ℕ) → m .state ≡ q → m .entry ≡ e → D (m .polled) ≡ true → e < time → time ≤ k → rule t m time ≡ Running)
     (slots : ℕ → Machine) (delayed : (j : ℕ) → e ≤ j → j < k → D ((slots j) .input) ≡ true) where
   -- Kept up to k: the machine is in q since e, and no free tick is due.
   record Waits (phase state entry : ℕ) : Type 0 where
@@ -72,10 +74,9 @@ module _ (t : Table) (q e k : ℕ) (D : ℕ → Bool)
 
 -- Here it is the state's hold, up to e + hold.
 hold-holds : (t : Table) (q e k : ℕ) → k ≤ e + holdOf t q →
-    (m : Machine) (time : ℕ) → m .state ≡ q → m .entry ≡ e → delays t q (m .polled) ≡ true → e < time → time ≤ k → held t m time ≡ true
-unfolding heldBy
+    (m : Machine) (time : ℕ) → m .state ≡ q → m .entry ≡ e → delays t q (m .polled) ≡ true → e < time → time ≤ k → rule t m time ≡ Running
 hold-holds t q e k within m time is since delayed l u =
-    rw (is, since, lt-ltb 0 (holdOf t q) (omega arith), delayed, le-leb (time - e) (holdOf t q) (omega arith))
+    by-ta-3 t m time .1 (rw (is, since) (omega arith, omega arith, delayed))
 
 pub not-too-soon : (t : Table) → NotTooSoon t
 not-too-soon t input rs T accepted q e k entered l within u delayed =

@@ -1,0 +1,37 @@
+-- The verdict of a test, in three rules: docs/RULES.md, "The verdict". The report has them as ta-3, ta-4 and ta-5
+-- (crates/runs/specs/Automaton.antt).
+use mathlib.Core.Path.{_≡_}
+use mathlib.Core.Logic.{_↔_}
+use mathlib.Core.Bool.{Bool, true, not}
+use Prim.Native.Nat.{ℕ, _-_}
+use Rattle.wire.specs.Choice.{_<?_, _≤?_, _=?_, _and_, _or_, if_then_else_}
+use Rattle.table.specs.Table.{member}
+use Rattle.machine.specs.declared.Rule.{Rule}
+use Rattle.machine.specs.declared.Rule.the-variants.{Running, Passed, NoHold}
+
+-- The state's hold and delayed set, the polled input, the entry into the state, the time of the test.
+module _ (hold delayed polled entry time : ℕ) where
+  -- Hold running: there is a hold, the polled input is delayed, and the time since the entry is at most the hold.
+  abbrev pub holdRunning : Bool
+  holdRunning = (0 <? hold) and member delayed polled and (time - entry ≤? hold)
+
+  -- Hold passed: there is a hold, the polled input is delayed, and the time since the entry is above the hold.
+  abbrev pub holdPassed : Bool
+  holdPassed = (0 <? hold) and member delayed polled and (hold <? time - entry)
+
+  -- No hold, or an input that is not delayed.
+  abbrev pub noHold : Bool
+  noHold = (hold =? 0) or not (member delayed polled)
+
+  unfoldable pub ruleBy : Rule
+  ruleBy = if holdRunning then Running else if holdPassed then Passed else NoHold
+
+  -- Exactly one of the three holds, the one that is told.
+  abbrev pub ExactlyOne : Type 0
+  ExactlyOne = (holdRunning ≡ true ↔ ruleBy ≡ Running) × (holdPassed ≡ true ↔ ruleBy ≡ Passed) × (noHold ≡ true ↔ ruleBy ≡ NoHold)
+
+-- 0 held, 1 free.
+abbrev pub verdictBy : Rule → ℕ
+verdictBy Running = 0
+verdictBy Passed = 1
+verdictBy NoHold = 1
