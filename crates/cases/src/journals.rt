@@ -14,21 +14,14 @@ pub fn check(case: &[u8], table: &[u8], records: &[u8]) -> bool {
 }
 
 pub fn show(answer: Answer) {
-    let Answer::Accepted {
-        end,
-        ticks,
-        moves,
-        state,
-        output,
-    } = answer
-    else {
+    let Answer::Accepted(n) = answer else {
         print::verdict(answer.number(), answer.place());
         return;
     };
-    print::number(b": accepted, T ", end as u64);
-    print::number(b", ticks ", ticks as u64);
-    print::number(b", moves ", moves as u64);
-    print::number(b", state ", state as u64);
-    print::number(b", output ", output as u64);
+    print::number(b": accepted, T ", n.end as u64);
+    print::number(b", ticks ", n.ticks as u64);
+    print::number(b", moves ", n.moves as u64);
+    print::number(b", state ", n.state as u64);
+    print::number(b", output ", n.output as u64);
     print::end_line();
 }

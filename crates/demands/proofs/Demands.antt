@@ -20,6 +20,9 @@ use Rattle.records.proofs.Written.{records-are-one, journal-recovers}
 use Rattle.machine.specs.Machine.{start}
 use Rattle.machine.specs.Run.{ticksOf, movesOf}
 use Rattle.machine.specs.Walk.{inTable}
+use Rattle.journal.specs.declared.Numbers.{Numbers}
+use Rattle.journal.specs.declared.Answer.the-variants.{Accepted}
+use Rattle.journal.specs.Check.{checkOf}
 use Rattle.reaction.specs.declared.Answer.the-variants.{Reacts}
 use Rattle.reaction.specs.Reaction.{weightOf, weight, reactOf}
 use Rattle.reaction.specs.Meaning.{Known, Slowest, Reaction}
@@ -33,23 +36,26 @@ use Rattle.runs.proofs.OneMove.{one-move}
 use Rattle.laws.specs.Journals.{JournalOf, AcceptedRun}
 use Rattle.laws.proofs.Tables.{holds-that-table}
 use Rattle.laws.proofs.Journals.{ends-at, under, accepts-exactly, checks-exactly}
-use Rattle.demands.specs.Demands.{AcceptedIsRun, AcceptedJournal, NotTooSoon, NotTooLate}
+use Rattle.demands.specs.Demands.{HoldsRun, AcceptedIsRun, AcceptedJournal, NotTooSoon, NotTooLate}
 
 -- ---- Acceptance
 
 -- The run of an accepted journal without its bytes and its numbers, and back.
-run-accepted : {t : Table} {s : List ℕ} {T ticks moves state output : ℕ} (a : AcceptedRun form.journal t s T ticks moves state output) →
-    runs.Accepted t (a .input) (a .records ++ End T ∷ []) T
-run-accepted {t} {T = T} a = record {
+run-accepted : {t : Table} {s : List ℕ} {n : Numbers} (a : AcceptedRun form.journal t s n) →
+    runs.Accepted t (a .input) (a .records ++ End (n .end) ∷ []) (n .end)
+run-accepted {t} {n = n} a = record {
   last = a .last;
   runs = a .runs;
-  ends = sym (ends-at t T (start (t .initial) (a .input)) (a .last) (a .records) (a .runs));
+  ends = sym (ends-at t (n .end) (start (t .initial) (a .input)) (a .last) (a .records) (a .runs));
 }
+
+abbrev ran : Table → ℕ → List Record → ℕ → Numbers
+ran t T before state = record { end = T; ticks = ticksOf before; moves = movesOf (t .initial) before; state = state; output = outputOf t state }
 
 accepts-run : {t : Table} {s : List ℕ} {T input : ℕ} {before : List Record} →
     length s ≤ longestJournal → JournalOf t s input before T →
     (a : runs.Accepted t input (before ++ End T ∷ []) T) →
-    AcceptedRun form.journal t s T (ticksOf before) (movesOf (t .initial) before) (a .last .state) (outputOf t (a .last .state))
+    AcceptedRun form.journal t s (ran t T before (a .last .state))
 accepts-run {input = input} {before = before} short journal a = record {
   short = short;
   input = input;
@@ -65,37 +71,38 @@ accepts-run {input = input} {before = before} short journal a = record {
 
 pub accepted-is-run : AcceptedIsRun
 accepted-is-run table journal table-bytes bytes T = (
-  λ a.
-      let p = checks-exactly table journal table-bytes bytes T (a .ticks) (a .moves) (a .state) (a .output) .0 (a .answer) in
-      let accepts = p .3 in
-      let records = accepts .records ++ End T ∷ [] in
-      record {
-        short = accepts .short;
-        t = p .0;
-        input = accepts .input;
-        records = records;
-        holds = record {
-          well-formed = p .1;
-          table-is = p .2;
-          before-end = accepts .records;
-          journal-is = accepts .written;
-          records-are = refl;
-        };
-        run = machine-is-automaton (p .0) (accepts .input) records T .0 (run-accepted accepts);
-      },
+  λ a. rw (← a .end-is) (to-run (a .numbers) (a .answer)),
   λ r.
       let h = r .holds in
       let records = h .before-end ++ End T ∷ [] in
       let a = machine-is-automaton (r .t) (r .input) records T .1 (rw (h .records-are) at (r .run)) in
       let accepts = accepts-run (r .short) (h .journal-is) a in
       record {
-        ticks = _;
-        moves = _;
-        state = _;
-        output = _;
-        answer = checks-exactly table journal table-bytes bytes T _ _ _ _ .1 (r .t, h .well-formed, h .table-is, accepts);
+        numbers = _;
+        answer = checks-exactly table journal table-bytes bytes _ .1 (r .t, h .well-formed, h .table-is, accepts);
+        end-is = refl;
       },
 )
+  where
+    to-run : (n : Numbers) → checkOf table journal ≡ Accepted n → HoldsRun table journal (n .end)
+    to-run n answer =
+        let p = checks-exactly table journal table-bytes bytes n .0 answer in
+        let accepts = p .3 in
+        let records = accepts .records ++ End (n .end) ∷ [] in
+        record {
+          short = accepts .short;
+          t = p .0;
+          input = accepts .input;
+          records = records;
+          holds = record {
+            well-formed = p .1;
+            table-is = p .2;
+            before-end = accepts .records;
+            journal-is = accepts .written;
+            records-are = refl;
+          };
+          run = machine-is-automaton (p .0) (accepts .input) records (n .end) .0 (run-accepted accepts);
+        }
 
 -- ---- The table and the records of an accepted journal
 
@@ -106,9 +113,9 @@ module _ {table journal : List ℕ} {t : Table} {input : ℕ} {records : List Re
       let a = j .accepted in
       let h = j .holds in
       let answer = under table journal t (h .well-formed) (h .table-is) ∙ a .answer in
-      let run = accepts-exactly form.journal refl journal-recovers t journal (j .bytes) T (a .ticks) (a .moves) (a .state) (a .output) .0 answer in
-      let one = records-are-one form.journal (inTable form.journal t) (t .inputs) journal _ _ _ _ T T (h .journal-is) (run .written) in
-      rw (← one .0, ← one .1, ← h .records-are) at (run-accepted run)
+      let run = accepts-exactly form.journal refl journal-recovers t journal (j .bytes) (a .numbers) .0 answer in
+      let one = records-are-one form.journal (inTable form.journal t) (t .inputs) journal _ _ _ _ T _ (h .journal-is) (run .written) in
+      rw (← one .0, ← one .1, a .end-is, ← h .records-are) at (run-accepted run)
 
   calculated : {P A c target : ℕ} → reactOf table P A ≡ Reacts c target → Reaction t P A c target
   calculated {P} {A} {c} {target} e =

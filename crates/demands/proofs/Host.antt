@@ -1,6 +1,6 @@
 -- What a host is told, as specs/Host states it.
 use mathlib.Core.Path.{_≡_, refl, ap, _∙_}
-use mathlib.Core.List.{List, [], _∷_}
+use mathlib.Core.List.{List}
 use mathlib.Core.Bool.{Bool, true, false}
 use Prim.Native.Nat.{ℕ, _*_, _≤_}
 use native.Mathlib.Omega.{arith}
@@ -15,9 +15,10 @@ use Rattle.table.specs.Check.{tableAnswer, tableIn}
 use Rattle.table.proofs.Answers.{decided}
 use Rattle.records.specs.Form.{journal}
 use Rattle.machine.specs.Walk.{Run, ran, tooLong, refused, runOver}
+use Rattle.journal.specs.declared.Numbers.{Numbers}
 use Rattle.journal.specs.declared.Answer.{Answer}
 use Rattle.journal.specs.declared.Answer.the-variants as answer
-use Rattle.journal.specs.Answer.{replyOf}
+use Rattle.journal.specs.Answer.{listed, replyOf}
 use Rattle.journal.specs.Check.{answerOf, checkOf}
 use Rattle.krossvil.specs.Host.{told, codeOf, answerAfter, journalTold}
 use Rattle.krossvil.proofs.Outcomes.{told-fits}
@@ -28,12 +29,8 @@ use Rattle.demands.proofs.Demands.{accepted-is-run}
 
 -- An answer that is told as 0 is an acceptance.
 record IsAccepted (a : Answer) : Type 0 where
-  end : ℕ
-  ticks : ℕ
-  moves : ℕ
-  state : ℕ
-  output : ℕ
-  is : a ≡ answer.Accepted end ticks moves state output
+  n : Numbers
+  is : a ≡ answer.Accepted n
 
 not-zero : (reply : Reply) → (numberIn reply =? 0) ≡ false → (room : ℕ) → codeOf (told reply room) ≡ 0 → ⊥
 unfolding told
@@ -46,7 +43,7 @@ not-zero reply h room e = go (room <? 4 * length (valuesIn reply)) e
 module _ (table s : List ℕ) (room : ℕ) where
   under-zero : (t : Table) (r : Run) → codeOf (told (replyOf (answerOf t r)) room) ≡ 0 → IsAccepted (answerOf t r)
   unfolding answerOf
-  under-zero t (ran input taken last) e = record { end = _; ticks = _; moves = _; state = _; output = _; is = refl }
+  under-zero t (ran input taken last) e = record { n = _; is = refl }
   under-zero t tooLong e = absurd (not-zero (refuses 19 0) refl room e)
   under-zero t (refused refusal place) e = absurd (not-zero (replyOf (answer.Refused refusal place)) (refusal-numbered refusal) room e)
 
@@ -58,31 +55,24 @@ module _ (table s : List ℕ) (room : ℕ) where
       (λ r other. absurd (not-zero (replyOf (answer.TableRefused (tableAnswer table))) (table-numbered (tableAnswer table) r) room (rw r at e)))
 
 module _ (table s before : List ℕ) (table-bytes : Bytes table) (bytes : Bytes s) (enough : 20 ≤ length before) where
-  fits : (end ticks moves state output : ℕ) → checkOf table s ≡ answer.Accepted end ticks moves state output →
-      journalTold table s (length before) ≡ gives (end ∷ ticks ∷ moves ∷ state ∷ output ∷ [])
-  fits end ticks moves state output is =
-      ap (λ a. told (replyOf a) (length before)) is
-      ∙ told-fits (replyOf (answer.Accepted end ticks moves state output)) (length before) enough
+  fits : (n : Numbers) → checkOf table s ≡ answer.Accepted n → journalTold table s (length before) ≡ gives (listed n)
+  fits n is = ap (λ a. told (replyOf a) (length before)) is ∙ told-fits (replyOf (answer.Accepted n)) (length before) enough
 
   pub judges-runs : JudgesRuns table s before (codeOf (journalTold table s (length before))) (answerAfter (journalTold table s (length before)) before)
   judges-runs = record {
     every = λ T run.
         let a = accepted-is-run table s table-bytes bytes T .1 run in
-        ap codeOf (fits T (a .ticks) (a .moves) (a .state) (a .output) (a .answer));
+        ap codeOf (fits (a .numbers) (a .answer));
     only = λ zero.
         let a = zero-accepted table s (length before) zero in
-        let p = checks-exactly table s table-bytes bytes (a .end) (a .ticks) (a .moves) (a .state) (a .output) .0 (a .is) in
+        let p = checks-exactly table s table-bytes bytes (a .n) .0 (a .is) in
         record {
-          end = a .end;
-          ticks = a .ticks;
-          moves = a .moves;
-          state = a .state;
-          output = a .output;
-          run = accepted-is-run table s table-bytes bytes (a .end) .0 (record { ticks = a .ticks; moves = a .moves; state = a .state; output = a .output; answer = a .is });
+          n = a .n;
+          run = accepted-is-run table s table-bytes bytes (a .n .end) .0 (record { numbers = a .n; answer = a .is; end-is = refl });
           under = p .0;
           well-formed = p .1;
           table-is = p .2;
           numbers = p .3;
-          answer = ap (λ reply. answerAfter reply before) (fits (a .end) (a .ticks) (a .moves) (a .state) (a .output) (a .is));
+          answer = ap (λ reply. answerAfter reply before) (fits (a .n) (a .is));
         };
   }

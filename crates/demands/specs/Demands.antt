@@ -13,6 +13,7 @@ use Rattle.table.specs.Encode as tables
 use Rattle.records.specs.declared.Record.{Record}
 use Rattle.records.specs.declared.Record.the-variants.{End}
 use Rattle.records.specs.Form.{longestJournal}
+use Rattle.journal.specs.declared.Numbers.{Numbers}
 use Rattle.journal.specs.declared.Answer.the-variants.{Accepted}
 use Rattle.journal.specs.Check.{checkOf}
 use Rattle.reaction.specs.declared.Answer.the-variants.{Reacts}
@@ -25,11 +26,9 @@ use Rattle.laws.specs.Journals.{JournalOf}
 
 -- The journal check accepts, and gives T as the end.
 pub record Accepts (table journal : List ℕ) (T : ℕ) : Type 0 where
-  pub ticks : ℕ
-  pub moves : ℕ
-  pub state : ℕ
-  pub output : ℕ
-  pub answer : checkOf table journal ≡ Accepted T ticks moves state output
+  pub numbers : Numbers
+  pub answer : checkOf table journal ≡ Accepted numbers
+  pub end-is : numbers .end ≡ T
 
 -- What the bytes hold: a well-formed table; an opening input, then records in range, of which the last and no other is the end, at T.
 pub record Holds (table journal : List ℕ) (t : Table) (input : ℕ) (records : List Record) (T : ℕ) : Type 0 where

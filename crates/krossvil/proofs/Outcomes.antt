@@ -72,7 +72,7 @@ module _ {A : Type 0} (replyOf : A → Reply) (right a : A) (is : a ≡ right) (
 
 -- What a `let .. else` on a success leaves has no numbers.
 pub journal-none : (a : journal′.Answer) → OneOf (1 ∷ 2 ∷ 3 ∷ []) (tagOf JournalT.the-type a) → valuesIn (journal.replyOf a) ≡ []
-journal-none (checked.Accepted end ticks moves state output) h = absurd (miss (1 ∷ 2 ∷ 3 ∷ []) 0 tt h)
+journal-none (checked.Accepted n) h = absurd (miss (1 ∷ 2 ∷ 3 ∷ []) 0 tt h)
 journal-none (checked.TableRefused answer) h = table-none answer
 journal-none checked.TooLong h = refl
 journal-none (checked.Refused refusal place) h = refl

@@ -23,9 +23,9 @@ use Rattle.machine.specs.Machine.{start, after}
 use Rattle.machine.specs.Run.{Runs, ticksOf, stateFrom, movesOf}
 use Rattle.machine.specs.Walk.{Run, ran, tooLong, refused, runOver}
 use Rattle.machine.proofs.Counts.{ticks-more}
-use Rattle.journal.specs.declared.Answer.{Answer}
+use Rattle.journal.specs.declared.Numbers.{Numbers}
 use Rattle.journal.specs.declared.Answer.the-variants.{Accepted, TableRefused}
-use Rattle.journal.specs.Check.{answerOf, answerIn, checkOf}
+use Rattle.journal.specs.Check.{numbersOf, answerOf, answerIn, checkOf}
 use Rattle.laws.specs.Walks.{RunsOver}
 use Rattle.laws.specs.Journals.{AcceptedRun, AcceptsExactly, ChecksExactly}
 use Rattle.laws.proofs.Tables.{passes-exactly, holds-that-table}
@@ -59,16 +59,14 @@ module _ (F : Form) (valued : F .valued ≡ true) where
   keeps-all [] = refl
   keeps-all (r ∷ rs) = rw (all-kept r, keeps-all rs) refl
 
-module _ (F : Form) (valued : F .valued ≡ true) (t : Table) (s : List ℕ) (end ticks moves state output : ℕ) where
-  abbrev numbers : Answer
-  numbers = Accepted end ticks moves state output
-
+module _ (F : Form) (valued : F .valued ≡ true) (t : Table) (s : List ℕ) (n : Numbers) where
   abbrev AsRun : Type 0
-  AsRun = AcceptedRun F t s end ticks moves state output
+  AsRun = AcceptedRun F t s n
 
-  pub run-accepted : AsRun → answerIn F t s ≡ numbers
+  pub run-accepted : AsRun → answerIn F t s ≡ Accepted n
   unfolding answerOf
   run-accepted a =
+      let end = n .end in
       let taken = a .records ++ End end ∷ [] in
       let over : RunsOver F t s (a .input) taken (a .last) = record { short = a .short; said = a .records; end = end; written = a .written; says = keeps-all F valued taken; runs = a .runs } in
       let time = ends-at t end (start (t .initial) (a .input)) (a .last) (a .records) (a .runs) in
@@ -84,16 +82,12 @@ module _ (F : Form) (valued : F .valued ≡ true) (t : Table) (s : List ℕ) (en
       )
 
   through : (input : ℕ) (taken : List Record) (last : Machine) → RunsOver F t s input taken last →
-      Accepted (last .time) (ticksOf taken) (movesOf (t .initial) taken) (last .state) (outputOf t (last .state)) ≡ numbers → AsRun
+      Accepted (numbersOf t taken last) ≡ Accepted n → AsRun
   through input taken last h e =
       let all : taken ≡ h .said ++ End (h .end) ∷ [] = sym (keeps-all F valued taken) ∙ h .says in
       let runs = rw all at (h .runs) in
-      let time-is : last .time ≡ end = cc in
-      let same : h .end ≡ end = ends-at t (h .end) (start (t .initial) input) last (h .said) runs ∙ time-is in
-      let counted : ticksOf taken ≡ ticks = cc in
-      let moved : movesOf (t .initial) taken ≡ moves = cc in
-      let state-is : last .state ≡ state = cc in
-      let shown : outputOf t (last .state) ≡ output = cc in
+      let is : numbersOf t taken last ≡ n = cc in
+      let same : h .end ≡ n .end = ends-at t (h .end) (start (t .initial) input) last (h .said) runs ∙ ap (λ x. x .end) is in
       record {
         short = h .short;
         input = input;
@@ -101,24 +95,23 @@ module _ (F : Form) (valued : F .valued ≡ true) (t : Table) (s : List ℕ) (en
         written = rw same at (h .written);
         last = last;
         runs = rw same at runs;
-        ticks-are = sym counted ∙ ap ticksOf all ∙ ticks-end (h .said) (h .end);
-        moves-are = sym moved ∙ ap (movesOf (t .initial)) all ∙ moves-end (t .initial) (h .said) (h .end);
-        state-is = sym state-is;
-        output-is = rw (← state-is) (sym shown);
+        ticks-are = sym (ap (λ x. x .ticks) is) ∙ ap ticksOf all ∙ ticks-end (h .said) (h .end);
+        moves-are = sym (ap (λ x. x .moves) is) ∙ ap (movesOf (t .initial)) all ∙ moves-end (t .initial) (h .said) (h .end);
+        state-is = sym (ap (λ x. x .state) is);
+        output-is = sym (ap (λ x. x .output) is) ∙ ap (λ x. outputOf t (x .state)) is;
       }
 
-  accepted-run : Recovers F → Bytes s → answerIn F t s ≡ numbers → AsRun
+  accepted-run : Recovers F → Bytes s → answerIn F t s ≡ Accepted n → AsRun
   unfolding answerOf
   accepted-run tells bytes e = go (runOver F t s) refl e
     where
-      go : (r : Run) → runOver F t s ≡ r → answerOf t r ≡ numbers → AsRun
+      go : (r : Run) → runOver F t s ≡ r → answerOf t r ≡ Accepted n → AsRun
       go (ran input taken last) is f = through input taken last (over-runs F t s input taken last tells bytes is) f
       go tooLong is f = apart cc
       go (refused refusal place) is f = apart cc
 
 pub accepts-exactly : (F : Form) → AcceptsExactly F
-accepts-exactly F valued tells t s bytes end ticks moves state output =
-    (accepted-run F valued t s end ticks moves state output tells bytes, run-accepted F valued t s end ticks moves state output)
+accepts-exactly F valued tells t s bytes n = (accepted-run F valued t s n tells bytes, run-accepted F valued t s n)
 
 -- ---- The entry
 
@@ -129,15 +122,15 @@ module _ (table s : List ℕ) where
       let h = holds-that-table table t ok is in
       sym (under-passes TableRefused (λ x. answerIn journal x s) table (h .0) ∙ ap (λ x. answerIn journal x s) (h .1))
 
-  table-passes : (end ticks moves state output : ℕ) → checkOf table s ≡ Accepted end ticks moves state output → tableAnswer table ≡ Passes
+  table-passes : (n : Numbers) → checkOf table s ≡ Accepted n → tableAnswer table ≡ Passes
   unfolding checkOf
-  table-passes end ticks moves state output e = under-passed TableRefused (λ x. answerIn journal x s) table _ (λ a f. apart cc) e
+  table-passes n e = under-passed TableRefused (λ x. answerIn journal x s) table _ (λ a f. apart cc) e
 
 pub checks-exactly : ChecksExactly
-checks-exactly table s table-bytes bytes end ticks moves state output = (
+checks-exactly table s table-bytes bytes n = (
   (λ e.
-      let p = passes-exactly table table-bytes .0 (table-passes table s end ticks moves state output e) in
+      let p = passes-exactly table table-bytes .0 (table-passes table s n e) in
       let answer = under table s (p .0) (p .1) (p .2) ∙ e in
-      (p .0, p .1, p .2, accepted-run journal refl (p .0) s end ticks moves state output journal-recovers bytes answer)),
-  (λ p. sym (under table s (p .0) (p .1) (p .2)) ∙ run-accepted journal refl (p .0) s end ticks moves state output (p .3)),
+      (p .0, p .1, p .2, accepted-run journal refl (p .0) s n journal-recovers bytes answer)),
+  (λ p. sym (under table s (p .0) (p .1) (p .2)) ∙ run-accepted journal refl (p .0) s n (p .3)),
 )

@@ -34,6 +34,7 @@ use Rattle.machine.proofs.Walk.{completed-in-range}
 use Rattle.machine.proofs.Over.{went-through}
 use Rattle.journal.specs.Check as checks
 use Rattle.journal.specs.Check.{answerIn}
+use Rattle.journal.specs.declared.Numbers.{Numbers}
 use Rattle.journal.specs.declared.Answer.the-variants as answer
 use Rattle.runtime.specs.declared.Answer.the-variants.{Written, TableRefused, JournalTooLong, BufferTooShort}
 use Rattle.runtime.specs.Run.{Made, journal, refused, madeOf, madeUnder, runOf, answerOf, bufferOf}
@@ -203,7 +204,8 @@ pub writes-accepted : WritesAccepted
 writes-accepted t good s input es end st j e short =
     let f = filled t good s input es end st j e in
     let state = f .last .state in
-    let a : AcceptedRun form.journal t j end (ticksOf es) (movesOf (t .initial) (f .inside)) state (outputOf t state) = record {
+    let n : Numbers = record { end = end; ticks = ticksOf es; moves = movesOf (t .initial) (f .inside); state = state; output = outputOf t state } in
+    let a : AcceptedRun form.journal t j n = record {
       short = short;
       input = input;
       records = f .inside;
@@ -215,17 +217,17 @@ writes-accepted t good s input es end st j e short =
       state-is = refl;
       output-is = refl;
     } in
-    (movesOf (t .initial) (f .inside), state, outputOf t state, run-accepted form.journal refl t j end (ticksOf es) _ state _ a)
+    (n, refl, refl, run-accepted form.journal refl t j n a)
 
 -- ---- Any accepted journal with that stimulus
 
 accepted-runs : (t : Table) (j : List ℕ) (input : ℕ) (rs : List Record) (end : ℕ) → JournalOf t j input rs end →
-    (ticks moves state output : ℕ) → answerIn form.journal t j ≡ answer.Accepted end ticks moves state output →
+    (n : Numbers) → answerIn form.journal t j ≡ answer.Accepted n →
     (last : Machine) × Runs t (start (t .initial) input) (rs ++ End end ∷ []) last
 unfolding checks.answerOf
-accepted-runs t j input rs end is ticks moves state output e = go (runOver form.journal t j) refl e
+accepted-runs t j input rs end is n e = go (runOver form.journal t j) refl e
   where
-    go : (r : Run) → runOver form.journal t j ≡ r → checks.answerOf t r ≡ answer.Accepted end ticks moves state output →
+    go : (r : Run) → runOver form.journal t j ≡ r → checks.answerOf t r ≡ answer.Accepted n →
         (last : Machine) × Runs t (start (t .initial) input) (rs ++ End end ∷ []) last
     go (ran input′ taken last) r f =
         let o = over-written form.journal t j input′ taken last input rs end is r in
@@ -238,7 +240,7 @@ accepted-runs t j input rs end is ticks moves state output e = go (runOver form.
 writes : (t : Table) (s j : List ℕ) → length s ≤ longestStimulus → AcceptedFor t s j → madeUnder t s ≡ journal j
 unfolding madeOf encode
 writes t s j short a =
-    let r = accepted-runs t j (a .input) (a .records) (a .end) (a .for .journal) (a .ticks) (a .moves) (a .state) (a .output) (a .accepted) in
+    let r = accepted-runs t j (a .input) (a .records) (a .end) (a .for .journal) (a .numbers) (a .accepted) in
     let taken = a .records ++ End (a .end) ∷ [] in
     let over : RunsOver form.stimulus t s (a .input) taken (r .0) = record {
       short = short;
@@ -296,11 +298,9 @@ module _ (t : Table) (good : WellFormed t) (s : List ℕ) (bytes : Bytes s) wher
         records = k .1;
         end = k .2;
         for = k .3;
-        ticks = ticksOf (map eventFor (k .1));
-        moves = a .0;
-        state = a .1;
-        output = a .2;
+        numbers = a .0;
         accepted = a .3;
+        end-is = a .1;
       }
 
   succeeded : (room size : ℕ) → answerOf (madeUnder t s) room ≡ Written size → laws.Writable t s room size
@@ -387,9 +387,9 @@ writes-the-journal table s before table-bytes bytes size e =
           records = k .1;
           end = k .2;
           for = k .3;
-          moves = a .0;
-          state = a .1;
-          output = a .2;
+          numbers = a .0;
           accepted = sym (under table′ j t good is) ∙ a .3;
+          end-is = a .1;
+          ticks-are = a .2;
           only = writes-the-only t s′ j made;
         }

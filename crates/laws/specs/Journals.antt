@@ -15,6 +15,7 @@ use Rattle.records.specs.declared.Record.the-variants.{End}
 use Rattle.machine.specs.Machine.{start}
 use Rattle.machine.specs.Run.{Runs, ticksOf, movesOf}
 use Rattle.machine.specs.Walk.{inTable}
+use Rattle.journal.specs.declared.Numbers.{Numbers}
 use Rattle.journal.specs.declared.Answer.the-variants.{Accepted}
 use Rattle.records.specs.Form.{Form, journal}
 use Rattle.records.specs.Encode.{WrittenAs, Recovers}
@@ -29,25 +30,24 @@ JournalOf t s input rs end = WrittenAs journal (inTable journal t) (t .inputs) s
 -- ---- Acceptance
 
 -- The bytes are records, in this form, that the machine runs to their end, and the numbers are those of the run.
-pub record AcceptedRun (F : Form) (t : Table) (s : List ℕ) (end ticks moves state output : ℕ) : Type 0 where
+pub record AcceptedRun (F : Form) (t : Table) (s : List ℕ) (n : Numbers) : Type 0 where
   pub short : length s ≤ F .most
   pub input : ℕ
   pub records : List Record
-  pub written : WrittenAs F (inTable F t) (t .inputs) s input records end
+  pub written : WrittenAs F (inTable F t) (t .inputs) s input records (n .end)
   pub last : Machine
-  pub runs : Runs t (start (t .initial) input) (records ++ End end ∷ []) last
-  pub ticks-are : ticks ≡ ticksOf records
-  pub moves-are : moves ≡ movesOf (t .initial) records
-  pub state-is : state ≡ last .state
-  pub output-is : output ≡ outputOf t state
+  pub runs : Runs t (start (t .initial) input) (records ++ End (n .end) ∷ []) last
+  pub ticks-are : n .ticks ≡ ticksOf records
+  pub moves-are : n .moves ≡ movesOf (t .initial) records
+  pub state-is : n .state ≡ last .state
+  pub output-is : n .output ≡ outputOf t (n .state)
 
 -- Under a table the bytes that are accepted are exactly the records, in this form, that its machine runs. The form says every value.
 abbrev pub AcceptsExactly : Form → Type 0
-AcceptsExactly F = F .valued ≡ true → Recovers F → (t : Table) (s : List ℕ) → Bytes s → (end ticks moves state output : ℕ) →
-    (answerIn F t s ≡ Accepted end ticks moves state output) ↔ AcceptedRun F t s end ticks moves state output
+AcceptsExactly F = F .valued ≡ true → Recovers F → (t : Table) (s : List ℕ) → Bytes s → (n : Numbers) →
+    (answerIn F t s ≡ Accepted n) ↔ AcceptedRun F t s n
 
 -- The entry accepts exactly the bytes of a well-formed table with a journal that the table's machine runs.
 abbrev pub ChecksExactly : Type 0
-ChecksExactly = (table s : List ℕ) → Bytes table → Bytes s → (end ticks moves state output : ℕ) →
-    (checkOf table s ≡ Accepted end ticks moves state output)
-    ↔ ((t : Table) × WellFormed t × (table ≡ tables.encode t) × AcceptedRun journal t s end ticks moves state output)
+ChecksExactly = (table s : List ℕ) → Bytes table → Bytes s → (n : Numbers) →
+    (checkOf table s ≡ Accepted n) ↔ ((t : Table) × WellFormed t × (table ≡ tables.encode t) × AcceptedRun journal t s n)

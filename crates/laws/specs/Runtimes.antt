@@ -10,6 +10,7 @@ use Rattle.table.specs.Table.{WellFormed}
 use Rattle.table.specs.Encode as tables
 use Rattle.records.specs.declared.Record.{Record}
 use Rattle.records.specs.declared.Refusal.the-variants.{Differs}
+use Rattle.journal.specs.declared.Numbers.{Numbers}
 use Rattle.journal.specs.declared.Answer.the-variants.{Accepted}
 use Rattle.journal.specs.Check.{answerIn, checkOf}
 use Rattle.records.specs.Form as form
@@ -47,7 +48,7 @@ KeepsTheStimulus = (t : Table) → WellFormed t → (s : List ℕ) → Bytes s �
 abbrev pub WritesAccepted : Type 0
 WritesAccepted = (t : Table) → WellFormed t → (s : List ℕ) (input : ℕ) (es : List Record) (end : ℕ) → StimulusOf t s input es end →
     (j : List ℕ) → madeUnder t s ≡ journal j → length j ≤ longestJournal →
-    (moves : ℕ) × (state : ℕ) × (output : ℕ) × (answerIn form.journal t j ≡ Accepted end (ticksOf es) moves state output)
+    (n : Numbers) × (n .end ≡ end) × (n .ticks ≡ ticksOf es) × (answerIn form.journal t j ≡ Accepted n)
 
 -- The bytes j are an accepted journal, and s is its stimulus.
 pub record AcceptedFor (t : Table) (s j : List ℕ) : Type 0 where
@@ -55,11 +56,9 @@ pub record AcceptedFor (t : Table) (s j : List ℕ) : Type 0 where
   pub records : List Record
   pub end : ℕ
   pub for : JournalFor t s j input records end
-  pub ticks : ℕ
-  pub moves : ℕ
-  pub state : ℕ
-  pub output : ℕ
-  pub accepted : answerIn form.journal t j ≡ Accepted end ticks moves state output
+  pub numbers : Numbers
+  pub accepted : answerIn form.journal t j ≡ Accepted numbers
+  pub end-is : numbers .end ≡ end
 
 -- There is no other accepted journal with that stimulus.
 abbrev pub WritesTheOnly : Type 0
@@ -96,10 +95,10 @@ pub record OnlyJournal (table s j : List ℕ) : Type 0 where
   pub records : List Record
   pub end : ℕ
   pub for : JournalFor under s j input records end
-  pub moves : ℕ
-  pub state : ℕ
-  pub output : ℕ
-  pub accepted : checkOf table j ≡ Accepted end (ticksOf (map eventFor records)) moves state output
+  pub numbers : Numbers
+  pub accepted : checkOf table j ≡ Accepted numbers
+  pub end-is : numbers .end ≡ end
+  pub ticks-are : numbers .ticks ≡ ticksOf (map eventFor records)
   pub only : (j′ : List ℕ) → AcceptedFor under s j′ → j′ ≡ j
 
 -- On success just that stands at the start of the buffer.

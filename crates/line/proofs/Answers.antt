@@ -25,7 +25,7 @@ none-refused (gives values) r = never (sym r)
 none-refused (refuses number place) r = refl
 
 pub no-values : (a : Answer) → OneOf (1 ∷ 2 ∷ 3 ∷ []) (tagOf AnswerT.the-type a) → [] ≡ valuesIn (replyOf a)
-no-values (Accepted end ticks moves state output) h = absurd (miss (1 ∷ 2 ∷ 3 ∷ []) 0 tt h)
+no-values (Accepted n) h = absurd (miss (1 ∷ 2 ∷ 3 ∷ []) 0 tt h)
 no-values (TableRefused answer) h = decided answer (λ e. rw e) (λ r other. sym (none-refused (table.replyOf answer) r))
 no-values TooLong h = refl
 no-values (Refused refusal place) h = refl

@@ -1,12 +1,13 @@
 -- Writing into a buffer: a text copied into its part from `at` on, and texts one after the other.
-use mathlib.Core.Path.{_≡_, sym, ap, _∙_}
-use mathlib.Core.List.{List, _++_, append-assoc, append-nil}
+use mathlib.Core.Path.{_≡_, refl, sym, ap, _∙_}
+use mathlib.Core.List.{List, [], _∷_, _++_, append-assoc, append-nil}
 use Prim.Native.Nat.{ℕ, _+_, _-_, _≤_}
+use Prim.Native.String.{String}
 use native.Mathlib.Omega.{arith}
 use lib.ListN.{length, take, drop, length-append, length-take, length-drop, drop-of-length-le}
 use lib.Seq.{take-length, take-all, take-at, drop-at, drop-drop}
 use Rattle.io.specs.Counts.{Counts}
-use Rattle.line.specs.Line.{Puts}
+use Rattle.line.specs.Line.{text, decimal, named, lineWith, Puts}
 
 -- The part that is lent to the copy is all that is left of the buffer.
 pub puts-copied : (text before : List ℕ) (at : ℕ) → at + length text ≤ length before → (part : List ℕ) (count : ℕ) → count ≡ length text →
@@ -41,3 +42,13 @@ pub puts-counts : {bytes before after : List ℕ} {end : ℕ} → Puts bytes bef
 puts-counts {after = after} {end = end} p =
     let long : end ≡ length (take end after) = rw (p .written) (omega arith) in
     (omega (arith, length-take end after), long)
+
+-- A line that is begun with some of its numbers goes on with the others.
+pub line-after : (names : List String) (numbers : List ℕ) → length names ≡ length numbers → (more : List String) (rest : List ℕ) →
+    named names numbers ++ lineWith more rest ≡ lineWith (names ++ more) (numbers ++ rest)
+unfolding named lineWith
+line-after [] [] h more rest = refl
+line-after [] (n ∷ numbers) h more rest = absurd (omega arith)
+line-after (name ∷ names) [] h more rest = absurd (omega arith)
+line-after (name ∷ names) (n ∷ numbers) h more rest =
+    simp append-assoc (ap (λ l. text name ++ (decimal n ++ l)) (line-after names numbers (omega arith) more rest))

@@ -30,15 +30,25 @@ decimal n = digitsOf 20 n
 
 -- ---- Lines
 
--- Each number after its name, and the line's end.
+-- Each number after its name; and with the line's end.
+unfoldable pub named : List String → List ℕ → List ℕ
+named [] numbers = []
+named (name ∷ names) [] = []
+named (name ∷ names) (n ∷ numbers) = text name ++ decimal n ++ named names numbers
+
 unfoldable pub lineWith : List String → List ℕ → List ℕ
 lineWith [] numbers = text "\n"
 lineWith (name ∷ names) [] = text "\n"
 lineWith (name ∷ names) (n ∷ numbers) = text name ++ decimal n ++ lineWith names numbers
 
--- The names of what an accepted journal gives, in the reply's order, and those of a refusal's number and place.
+-- The names of what an accepted journal gives, in the reply's order: how long the run was, and where it ended.
+abbrev pub lengthNames : List String
+lengthNames = "accepted end=" ∷ " cycles=" ∷ " moves=" ∷ []
+
 abbrev pub acceptedNames : List String
-acceptedNames = "accepted end=" ∷ " cycles=" ∷ " moves=" ∷ " state=" ∷ " output=" ∷ []
+acceptedNames = lengthNames ++ " state=" ∷ " output=" ∷ []
+
+-- And of a refusal's number and place.
 
 abbrev pub refusedNames : List String
 refusedNames = "refused " ∷ " at " ∷ []

@@ -4,8 +4,10 @@ ghost use mathlib.Core.List.{[], _∷_, _++_};
 ghost use Prim.Native.Nat.{_+_, _≤_};
 ghost use lib.ListN.{length};
 ghost use Rattle.io.specs.Counts.{Counts};
-ghost use Rattle.line.specs.Line.{Puts, decimal, lineWith, acceptedNames, refusedNames, lineOf};
+ghost use Rattle.journal.specs.Answer.{listed};
+ghost use Rattle.line.specs.Line.{Puts, decimal, named, lineWith, lengthNames, acceptedNames, refusedNames, lineOf};
 use journal::Answer;
+use journal::Numbers;
 
 // Writes the text from `at` on, and gives back where it ends.
 fn put_text(out: &mut [u8], at: usize, text: &[u8]) -> usize
@@ -27,22 +29,23 @@ fn put_number(out: &mut [u8; 256], at: usize, name: &[u8], n: u64) -> usize
     put_text(out, at, &digits[..size])
 }
 
-// The longest line has 44 bytes of text and five numbers: it fits the buffer.
-fn put_accepted(
-    out: &mut [u8; 256],
-    end: u32,
-    ticks: u32,
-    moves: u32,
-    state: u32,
-    output: u32,
-) -> usize
-    ensures { λ r. ⌜ Puts (lineWith acceptedNames (end ∷ ticks ∷ moves ∷ state ∷ output ∷ [])) (now (out .entry)) 0 (now (out .exit)) r ⌝ }
+// How long the run was. Each number has at most ten digits, twenty as far as `put_number` knows.
+fn put_length(out: &mut [u8; 256], n: Numbers) -> usize
+    ensures puts { λ r. ⌜ Puts (named lengthNames (n .end ∷ n .ticks ∷ n .moves ∷ [])) (now (out .entry)) 0 (now (out .exit)) r ⌝ }
+    ensures short { λ r. ⌜ r ≤ 88 ⌝ }
 {
-    let at = put_number(out, 0, b"accepted end=", end as u64);
-    let at = put_number(out, at, b" cycles=", ticks as u64);
-    let at = put_number(out, at, b" moves=", moves as u64);
-    let at = put_number(out, at, b" state=", state as u64);
-    let at = put_number(out, at, b" output=", output as u64);
+    let at = put_number(out, 0, b"accepted end=", n.end as u64);
+    let at = put_number(out, at, b" cycles=", n.ticks as u64);
+    put_number(out, at, b" moves=", n.moves as u64)
+}
+
+// Then where it ended.
+fn put_accepted(out: &mut [u8; 256], n: Numbers) -> usize
+    ensures { λ r. ⌜ Puts (lineWith acceptedNames (listed n)) (now (out .entry)) 0 (now (out .exit)) r ⌝ }
+{
+    let at = put_length(out, n);
+    let at = put_number(out, at, b" state=", n.state as u64);
+    let at = put_number(out, at, b" output=", n.output as u64);
     put_text(out, at, b"\n")
 }
 
@@ -64,15 +67,8 @@ pub fn write(answer: Answer, out: &mut [u8; 256]) -> usize
         return put_refused(out, number, answer.place());
     }
     // No journal check gives a success without numbers. Its line would have none.
-    let Answer::Accepted {
-        end,
-        ticks,
-        moves,
-        state,
-        output,
-    } = answer
-    else {
+    let Answer::Accepted(n) = answer else {
         return put_text(out, 0, b"\n");
     };
-    put_accepted(out, end, ticks, moves, state, output)
+    put_accepted(out, n)
 }
