@@ -13,7 +13,8 @@ use Rattle.table.specs.Under.{underTable}
 use Rattle.records.specs.Reading.{lengthFits, knownIn, knownWith, openingIn, openingWith, recordOf, ranged, recordIn, recordAt, itemsFrom, itemsOf}
 use Rattle.records.specs.Encode.{bytesOf, bytesFrom, encode}
 use Rattle.machine.specs.Verdict.{ruleBy}
-use Rattle.machine.specs.Machine.{verdict, stateAfter, lastChange, gate, step}
+use Rattle.machine.specs.Machine.{verdict, left, stateAfter, lastChange, gate, step}
+use Rattle.machine.specs.Most.{most}
 use Rattle.machine.specs.Run.{ticksOf, movesOf}
 use Rattle.machine.specs.Walk.{filled, walk, recordsRun, opened, runOver}
 use Rattle.journal.specs.Check as journal
@@ -26,8 +27,8 @@ use Rattle.demands.specs.Cases.{CasesHold, Sizes}
 pub cases-hold : CasesHold
 unfolding field fieldAt some setOf largest _or-else_ _and-then_ entriesFrom values tables.encode words named fieldAnswer rowAnswer below
     countsAnswer boundAnswer holdsAnswer entriesAnswer tableAnswer tableOf underTable lengthFits knownIn knownWith openingIn openingWith recordOf
-    ranged recordIn recordAt itemsFrom itemsOf bytesOf bytesFrom encode ruleBy verdict stateAfter lastChange gate step ticksOf movesOf filled walk recordsRun
-    opened runOver journal.answerOf checkOf nextSet weightOf reactionTime firstFrom firstLeaving reactionOf reactOf madeOf runOf runtime.answerOf
+    ranged recordIn recordAt itemsFrom itemsOf bytesOf bytesFrom encode ruleBy verdict left stateAfter lastChange gate step ticksOf movesOf most filled walk
+    recordsRun opened runOver journal.answerOf checkOf nextSet weightOf reactionTime firstFrom firstLeaving reactionOf reactOf madeOf runOf runtime.answerOf
     bufferOf
 cases-hold = (refl, refl)
 

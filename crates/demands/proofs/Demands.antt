@@ -8,18 +8,24 @@ use native.Mathlib.Omega.{arith}
 use borrow.Author.Tests.{lt-ltb}
 use lib.ListN.{length}
 use Rattle.wire.specs.Choice.{_<?_, _and_, if_then_else_}
+use Rattle.wire.specs.Encode.{Bytes}
 use Rattle.sets.specs.Sets.{member, some}
 use Rattle.sets.proofs.Members.{some-if}
 use Rattle.table.specs.declared.Table.{Table}
 use Rattle.table.specs.Table.{outputOf, holdOf, delays, WellFormed}
+use Rattle.table.specs.Encode as tables
 use Rattle.records.specs.declared.Record.{Record}
 use Rattle.records.specs.declared.Record.the-variants.{End}
 use Rattle.records.specs.Form as form
 use Rattle.records.specs.Form.{longestJournal}
 use Rattle.records.proofs.Written.{records-are-one, journal-recovers}
-use Rattle.machine.specs.Machine.{start}
-use Rattle.machine.specs.Run.{ticksOf, movesOf}
+use Rattle.records.specs.Record.{isTest}
+use Rattle.machine.specs.Machine.{start, left, after}
+use Rattle.machine.specs.Run.{ticksOf, movesOf, mostLeft}
 use Rattle.machine.specs.Walk.{inTable}
+use Rattle.machine.specs.declared.Machine.{Machine}
+use Rattle.machine.specs.Most.{MostOf}
+use Rattle.machine.proofs.Left.{left-is-most}
 use Rattle.journal.specs.declared.Numbers.{Numbers}
 use Rattle.journal.specs.declared.Answer.the-variants.{Accepted}
 use Rattle.journal.specs.Check.{checkOf}
@@ -35,8 +41,8 @@ use Rattle.runs.proofs.Soon.{not-too-soon}
 use Rattle.runs.proofs.OneMove.{one-move}
 use Rattle.laws.specs.Journals.{JournalOf, AcceptedRun}
 use Rattle.laws.proofs.Tables.{holds-that-table}
-use Rattle.laws.proofs.Journals.{ends-at, under, accepts-exactly, checks-exactly}
-use Rattle.demands.specs.Demands.{HoldsRun, AcceptedIsRun, AcceptedJournal, NotTooSoon, NotTooLate}
+use Rattle.laws.proofs.Journals.{ends-at, left-end, under, accepts-exactly, checks-exactly}
+use Rattle.demands.specs.Demands.{Holds, HoldsRun, LeftTold, AcceptedIsRun, LeftIsMost, AcceptedJournal, NotTooSoon, NotTooLate}
 
 -- ---- Acceptance
 
@@ -49,13 +55,20 @@ run-accepted {t} {n = n} a = record {
   ends = sym (ends-at t (n .end) (start (t .initial) (a .input)) (a .last) (a .records) (a .runs));
 }
 
-abbrev ran : Table → ℕ → List Record → ℕ → Numbers
-ran t T before state = record { end = T; ticks = ticksOf before; moves = movesOf (t .initial) before; state = state; output = outputOf t state }
+abbrev ran : Table → ℕ → ℕ → List Record → ℕ → Numbers
+ran t input T before state = record {
+  end = T;
+  ticks = ticksOf before;
+  moves = movesOf (t .initial) before;
+  state = state;
+  output = outputOf t state;
+  left = mostLeft t (start (t .initial) input) before;
+}
 
 accepts-run : {t : Table} {s : List ℕ} {T input : ℕ} {before : List Record} →
     length s ≤ longestJournal → JournalOf t s input before T →
     (a : runs.Accepted t input (before ++ End T ∷ []) T) →
-    AcceptedRun form.journal t s (ran t T before (a .last .state))
+    AcceptedRun form.journal t s (ran t input T before (a .last .state))
 accepts-run {input = input} {before = before} short journal a = record {
   short = short;
   input = input;
@@ -67,11 +80,51 @@ accepts-run {input = input} {before = before} short journal a = record {
   moves-are = refl;
   state-is = refl;
   output-is = refl;
+  left-is = refl;
 }
+
+most-of : (t : Table) (m : Machine) (rs : List Record) (most : ℕ) → most ≡ mostLeft t m rs → MostOf (after t) isTest (left t) m rs most
+most-of t m rs most is = rw is (left-is-most t m rs)
+
+-- What the bytes of an accepted journal hold.
+module _ (table journal : List ℕ) (table-bytes : Bytes table) (bytes : Bytes journal) (n : Numbers) (answer : checkOf table journal ≡ Accepted n) where
+  found : (t : Table) × WellFormed t × (table ≡ tables.encode t) × AcceptedRun form.journal t journal n
+  found = checks-exactly table journal table-bytes bytes n .0 answer
+
+  abbrev all : List Record
+  all = found .3 .records ++ End (n .end) ∷ []
+
+  held : Holds table journal (found .0) (found .3 .input) all (n .end)
+  held = record {
+    well-formed = found .1;
+    table-is = found .2;
+    before-end = found .3 .records;
+    journal-is = found .3 .written;
+    records-are = refl;
+  }
+
+  to-run : HoldsRun table journal (n .end)
+  to-run = record {
+    short = found .3 .short;
+    t = found .0;
+    input = found .3 .input;
+    records = all;
+    holds = held;
+    run = machine-is-automaton (found .0) (found .3 .input) all (n .end) .0 (run-accepted (found .3));
+  }
+
+  left-told : LeftTold table journal n
+  left-told = record {
+    t = found .0;
+    input = found .3 .input;
+    records = all;
+    holds = held;
+    most = most-of (found .0) _ all (n .left) (found .3 .left-is ∙ sym (left-end (found .0) _ (found .3 .records) (n .end)));
+  }
 
 pub accepted-is-run : AcceptedIsRun
 accepted-is-run table journal table-bytes bytes T = (
-  λ a. rw (← a .end-is) (to-run (a .numbers) (a .answer)),
+  λ a. rw (← a .end-is) (to-run table journal table-bytes bytes (a .numbers) (a .answer)),
   λ r.
       let h = r .holds in
       let records = h .before-end ++ End T ∷ [] in
@@ -83,26 +136,9 @@ accepted-is-run table journal table-bytes bytes T = (
         end-is = refl;
       },
 )
-  where
-    to-run : (n : Numbers) → checkOf table journal ≡ Accepted n → HoldsRun table journal (n .end)
-    to-run n answer =
-        let p = checks-exactly table journal table-bytes bytes n .0 answer in
-        let accepts = p .3 in
-        let records = accepts .records ++ End (n .end) ∷ [] in
-        record {
-          short = accepts .short;
-          t = p .0;
-          input = accepts .input;
-          records = records;
-          holds = record {
-            well-formed = p .1;
-            table-is = p .2;
-            before-end = accepts .records;
-            journal-is = accepts .written;
-            records-are = refl;
-          };
-          run = machine-is-automaton (p .0) (accepts .input) records (n .end) .0 (run-accepted accepts);
-        }
+
+pub left-is-the-most : LeftIsMost
+left-is-the-most table journal table-bytes bytes n answer = left-told table journal table-bytes bytes n answer
 
 -- ---- The table and the records of an accepted journal
 

@@ -20,7 +20,8 @@ use Rattle.records.specs.Encode.{kept, Recovers}
 use Rattle.records.proofs.Written.{journal-recovers}
 use Rattle.machine.specs.declared.Machine.{Machine}
 use Rattle.machine.specs.Machine.{start, after}
-use Rattle.machine.specs.Run.{Runs, ticksOf, stateFrom, movesOf}
+use Rattle.machine.specs.Run.{Runs, ticksOf, stateFrom, movesOf, mostLeft}
+use Rattle.machine.specs.Most.{most}
 use Rattle.machine.specs.Walk.{Run, ran, tooLong, refused, runOver}
 use Rattle.machine.proofs.Counts.{ticks-more}
 use Rattle.journal.specs.declared.Numbers.{Numbers}
@@ -37,7 +38,7 @@ pub ends-at : (t : Table) (end : ℕ) (m last : Machine) (rs : List Record) → 
 ends-at t end m last [] (taken, same) = ap (λ x. x .time) same
 ends-at t end m last (r ∷ rs) (taken, more) = ends-at t end (after t m r) last rs more
 
--- The end is no tick and no move.
+-- The end is no tick, no move and no test.
 ticks-end : (rs : List Record) (end : ℕ) → ticksOf (rs ++ End end ∷ []) ≡ ticksOf rs
 ticks-end rs end = ticks-more rs (End end) ∙ omega arith
 
@@ -45,6 +46,11 @@ moves-end : (q : ℕ) (rs : List Record) (end : ℕ) → movesOf q (rs ++ End en
 unfolding movesOf
 moves-end q [] end = rw (eq-eqb q q refl) refl
 moves-end q (r ∷ rs) end = rw (moves-end (stateFrom q r) rs end) refl
+
+pub left-end : (t : Table) (m : Machine) (rs : List Record) (end : ℕ) → mostLeft t m (rs ++ End end ∷ []) ≡ mostLeft t m rs
+unfolding most
+left-end t m [] end = refl
+left-end t m (r ∷ rs) end = rw (left-end t (after t m r) rs end) refl
 
 -- A form that says every value keeps all of a record.
 module _ (F : Form) (valued : F .valued ≡ true) where
@@ -74,19 +80,21 @@ module _ (F : Form) (valued : F .valued ≡ true) (t : Table) (s : List ℕ) (n 
         runs-over F t s (a .input) taken (a .last) over,
         ticks-end,
         moves-end,
+        left-end,
         a .output-is,
         a .state-is,
         a .ticks-are,
         a .moves-are,
+        a .left-is,
         ← time,
       )
 
   through : (input : ℕ) (taken : List Record) (last : Machine) → RunsOver F t s input taken last →
-      Accepted (numbersOf t taken last) ≡ Accepted n → AsRun
+      Accepted (numbersOf t input taken last) ≡ Accepted n → AsRun
   through input taken last h e =
       let all : taken ≡ h .said ++ End (h .end) ∷ [] = sym (keeps-all F valued taken) ∙ h .says in
       let runs = rw all at (h .runs) in
-      let is : numbersOf t taken last ≡ n = cc in
+      let is : numbersOf t input taken last ≡ n = cc in
       let same : h .end ≡ n .end = ends-at t (h .end) (start (t .initial) input) last (h .said) runs ∙ ap (λ x. x .end) is in
       record {
         short = h .short;
@@ -99,6 +107,7 @@ module _ (F : Form) (valued : F .valued ≡ true) (t : Table) (s : List ℕ) (n 
         moves-are = sym (ap (λ x. x .moves) is) ∙ ap (movesOf (t .initial)) all ∙ moves-end (t .initial) (h .said) (h .end);
         state-is = sym (ap (λ x. x .state) is);
         output-is = sym (ap (λ x. x .output) is) ∙ ap (λ x. outputOf t (x .state)) is;
+        left-is = sym (ap (λ x. x .left) is) ∙ ap (mostLeft t (start (t .initial) input)) all ∙ left-end t (start (t .initial) input) (h .said) (h .end);
       }
 
   accepted-run : Recovers F → Bytes s → answerIn F t s ≡ Accepted n → AsRun

@@ -26,7 +26,7 @@ use Rattle.records.specs.Encode.{bytesFrom, encode, kept, Writable, Inner}
 use Rattle.records.proofs.Written.{stimulus-recovers}
 use Rattle.machine.specs.declared.Machine.{Machine}
 use Rattle.machine.specs.Machine.{start, agrees, after}
-use Rattle.machine.specs.Run.{Runs, ticks, ticksOf, movesOf}
+use Rattle.machine.specs.Run.{Runs, ticks, ticksOf, movesOf, mostLeft}
 use Rattle.machine.specs.Walk.{inTable, Run, ran, tooLong, runOver}
 use Rattle.machine.specs.Walk as walk
 use Rattle.machine.proofs.Steps.{step-taken, Fits, fits-after, start-fits}
@@ -204,7 +204,14 @@ pub writes-accepted : WritesAccepted
 writes-accepted t good s input es end st j e short =
     let f = filled t good s input es end st j e in
     let state = f .last .state in
-    let n : Numbers = record { end = end; ticks = ticksOf es; moves = movesOf (t .initial) (f .inside); state = state; output = outputOf t state } in
+    let n : Numbers = record {
+      end = end;
+      ticks = ticksOf es;
+      moves = movesOf (t .initial) (f .inside);
+      state = state;
+      output = outputOf t state;
+      left = mostLeft t (start (t .initial) input) (f .inside);
+    } in
     let a : AcceptedRun form.journal t j n = record {
       short = short;
       input = input;
@@ -216,6 +223,7 @@ writes-accepted t good s input es end st j e short =
       moves-are = refl;
       state-is = refl;
       output-is = refl;
+      left-is = refl;
     } in
     (n, refl, refl, run-accepted form.journal refl t j n a)
 

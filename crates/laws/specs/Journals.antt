@@ -13,7 +13,7 @@ use Rattle.machine.specs.declared.Machine.{Machine}
 use Rattle.records.specs.declared.Record.{Record}
 use Rattle.records.specs.declared.Record.the-variants.{End}
 use Rattle.machine.specs.Machine.{start}
-use Rattle.machine.specs.Run.{Runs, ticksOf, movesOf}
+use Rattle.machine.specs.Run.{Runs, ticksOf, movesOf, mostLeft}
 use Rattle.machine.specs.Walk.{inTable}
 use Rattle.journal.specs.declared.Numbers.{Numbers}
 use Rattle.journal.specs.declared.Answer.the-variants.{Accepted}
@@ -41,6 +41,7 @@ pub record AcceptedRun (F : Form) (t : Table) (s : List ℕ) (n : Numbers) : Typ
   pub moves-are : n .moves ≡ movesOf (t .initial) records
   pub state-is : n .state ≡ last .state
   pub output-is : n .output ≡ outputOf t (n .state)
+  pub left-is : n .left ≡ mostLeft t (start (t .initial) input) records
 
 -- Under a table the bytes that are accepted are exactly the records, in this form, that its machine runs. The form says every value.
 abbrev pub AcceptsExactly : Form → Type 0

@@ -41,12 +41,13 @@ lineWith [] numbers = text "\n"
 lineWith (name ∷ names) [] = text "\n"
 lineWith (name ∷ names) (n ∷ numbers) = text name ++ decimal n ++ lineWith names numbers
 
--- The names of what an accepted journal gives, in the reply's order: how long the run was, and where it ended.
+-- The names of what an accepted journal gives, in the reply's order: how long the run was, then where it ended
+-- and the most ticks left at a test.
 abbrev pub lengthNames : List String
 lengthNames = "accepted end=" ∷ " cycles=" ∷ " moves=" ∷ []
 
 abbrev pub acceptedNames : List String
-acceptedNames = lengthNames ++ " state=" ∷ " output=" ∷ []
+acceptedNames = lengthNames ++ " state=" ∷ " output=" ∷ " left=" ∷ []
 
 -- And of a refusal's number and place.
 

@@ -39,13 +39,14 @@ fn put_length(out: &mut [u8; 256], n: Numbers) -> usize
     put_number(out, at, b" moves=", n.moves as u64)
 }
 
-// Then where it ended.
+// Then where it ended, and the most ticks left at a test.
 fn put_accepted(out: &mut [u8; 256], n: Numbers) -> usize
     ensures { λ r. ⌜ Puts (lineWith acceptedNames (listed n)) (now (out .entry)) 0 (now (out .exit)) r ⌝ }
 {
     let at = put_length(out, n);
     let at = put_number(out, at, b" state=", n.state as u64);
     let at = put_number(out, at, b" output=", n.output as u64);
+    let at = put_number(out, at, b" left=", n.left as u64);
     put_text(out, at, b"\n")
 }
 

@@ -2,7 +2,7 @@
 use mathlib.Core.Path.{_≡_, refl, sym, ap, _∙_}
 use mathlib.Core.List.{List, [], _∷_, _++_}
 use mathlib.Core.Bool.{Bool, true, false}
-use Prim.Native.Nat.{ℕ, _+_, _≤_}
+use Prim.Native.Nat.{ℕ, _+_, _≤_, max}
 use native.Mathlib.Omega.{arith}
 use borrow.Author.Tests.{eqb-true}
 use lib.ListN.{length}
@@ -12,8 +12,11 @@ use Rattle.records.specs.declared.Record.{Record}
 use Rattle.records.specs.declared.Record.the-variants.{Change, Poll, Test, Tick, End}
 use Rattle.machine.specs.declared.Machine.{Machine}
 use Rattle.machine.specs.declared.Step.the-variants.{Next}
-use Rattle.machine.specs.Machine.{stateAfter, after, step}
-use Rattle.machine.specs.Run.{Runs, ticks, ticksOf, stateFrom, moves, movesOf}
+use Rattle.machine.specs.Machine.{left, stateAfter, after, step}
+use Rattle.records.specs.Record.{isTest}
+use Rattle.machine.specs.Most.{numberAt}
+use Rattle.machine.specs.Run.{Runs, ticks, ticksOf, stateFrom, moves, movesOf, mostLeft}
+use Rattle.machine.proofs.Most.{kept, most-more}
 use Rattle.machine.proofs.Steps.{Taken, step-taken}
 
 -- The state that a taken record leaves is the one that it names.
@@ -40,6 +43,15 @@ moves-more t m m′ (x ∷ rs) r (taken, more) =
     let first = state-from t m x (after t m x) taken in
     let rest = moves-more t (after t m x) m′ rs r more in
     omega (arith, rw first at rest)
+
+kept-is : (t : Table) (m m′ : Machine) (rs : List Record) → Runs t m rs m′ → kept (after t) isTest (left t) m rs ≡ m′
+kept-is t m m′ [] same = same
+kept-is t m m′ (r ∷ rs) (taken, more) = kept-is t (after t m r) m′ rs more
+
+pub left-more : (t : Table) (m m′ : Machine) (rs : List Record) (r : Record) → Runs t m rs m′ →
+    mostLeft t m (rs ++ r ∷ []) ≡ max (mostLeft t m rs) (numberAt (after t) isTest (left t) m′ r)
+left-more t m m′ rs r runs =
+    most-more (after t) isTest (left t) m rs r ∙ ap (λ x. max (mostLeft t m rs) (numberAt (after t) isTest (left t) x r)) (kept-is t m m′ rs runs)
 
 one-tick : (r : Record) → ticks r ≤ 1
 one-tick (Change time input) = omega arith

@@ -2,12 +2,12 @@
 use mathlib.Core.Path.{_≡_, refl}
 use mathlib.Core.Logic.{_↔_}
 use mathlib.Core.Bool.{Bool, true, false, not}
-use Prim.Native.Nat.{ℕ, _+_, _-_, _<_, _≤_}
+use Prim.Native.Nat.{ℕ, _-_, _<_, _≤_}
 use native.Mathlib.Omega.{arith}
 use borrow.Author.Tests.{lt-ltb, le-ltb, le-leb, lt-leb, eq-eqb, ne-eqb, ltb-true, ltb-false, leb-true, leb-false}
 use Rattle.wire.specs.Choice.{_<?_, _≤?_, _=?_, _and_, _or_, if_then_else_}
 use Rattle.wire.proofs.Apart.{apart}
-use Rattle.wire.proofs.Choice.{never}
+use Rattle.wire.proofs.Choice.{never, both}
 use Rattle.table.specs.Table.{member}
 use Rattle.machine.specs.declared.Rule.{Rule}
 use Rattle.machine.specs.declared.Rule.the-variants.{Running, Passed, NoHold}
@@ -29,14 +29,14 @@ module _ (hold delayed polled entry time : ℕ) where
     not-delayed h = rw (lt-ltb 0 hold some, h) refl
 
     module _ (is-delayed : member delayed polled ≡ true) where
-      pub still-running : time ≤ entry + hold → Running ≡ ruleBy hold delayed polled entry time
+      pub still-running : time - entry ≤ hold → Running ≡ ruleBy hold delayed polled entry time
       unfolding ruleBy
-      still-running l = rw (lt-ltb 0 hold some, is-delayed, le-leb (time - entry) hold (omega arith)) refl
+      still-running l = rw (lt-ltb 0 hold some, is-delayed, le-leb (time - entry) hold l) refl
 
-      pub has-passed : entry + hold < time → Passed ≡ ruleBy hold delayed polled entry time
+      pub has-passed : hold < time - entry → Passed ≡ ruleBy hold delayed polled entry time
       unfolding ruleBy
       has-passed l =
-          rw (lt-ltb 0 hold some, is-delayed, lt-leb (time - entry) hold (omega arith), lt-ltb hold (time - entry) (omega arith)) refl
+          rw (lt-ltb 0 hold some, is-delayed, lt-leb (time - entry) hold l, lt-ltb hold (time - entry) l) refl
 
 -- ---- Exactly one
 
@@ -80,3 +80,8 @@ pub exactly-one : (hold delayed polled entry time : ℕ) → ExactlyOne hold del
 unfolding ruleBy
 exactly-one hold delayed polled entry time =
     rw (none-or-some hold, above-or-within (time - entry) hold) (one (0 <? hold) (member delayed polled) (time - entry ≤? hold))
+
+pub running-within : (hold delayed polled entry time : ℕ) → ruleBy hold delayed polled entry time ≡ Running → time - entry ≤ hold
+running-within hold delayed polled entry time e =
+    let yes = both (0 <? hold) _ (exactly-one hold delayed polled entry time .0 .1 e) in
+    leb-true _ _ (both (member delayed polled) _ (yes .1) .1)

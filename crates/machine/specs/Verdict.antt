@@ -3,7 +3,7 @@
 use mathlib.Core.Path.{_≡_}
 use mathlib.Core.Logic.{_↔_}
 use mathlib.Core.Bool.{Bool, true, not}
-use Prim.Native.Nat.{ℕ, _-_}
+use Prim.Native.Nat.{ℕ, _+_, _-_}
 use Rattle.wire.specs.Choice.{_<?_, _≤?_, _=?_, _and_, _or_, if_then_else_}
 use Rattle.table.specs.Table.{member}
 use Rattle.machine.specs.declared.Rule.{Rule}
@@ -35,3 +35,9 @@ abbrev pub verdictBy : Rule → ℕ
 verdictBy Running = 0
 verdictBy Passed = 1
 verdictBy NoHold = 1
+
+-- The ticks left until the hold is passed, while it is running; else 0.
+abbrev pub leftBy : (hold entry time : ℕ) → Rule → ℕ
+leftBy hold entry time Running = hold - (time - entry) + 1
+leftBy hold entry time Passed = 0
+leftBy hold entry time NoHold = 0

@@ -10,10 +10,12 @@ use Rattle.line.proofs.put_accepted.Tie as tie
 returns : tie.Need-returns
 unfolding lineWith
 returns c =
-    let output = c .before .before .before in
+    let left = c .before .before .before in
+    let output = left .before .before .before .before in
     let state = output .before .before .before .before in
     let length = state .before .before .before .before in
-    let ended = puts-both (state .put-number .ensures .0) (puts-both (output .put-number2 .ensures .0) (c .put-text .ensures)) in
+    let told = puts-both (output .put-number2 .ensures .0) (puts-both (left .put-number3 .ensures .0) (c .put-text .ensures)) in
+    let ended = puts-both (state .put-number .ensures .0) told in
     rw (← line-after lengthNames (_ ∷ _ ∷ _ ∷ []) refl) (puts-both (length .put-length .ensures .0) ended)
 
 pub put-accepted-spec : {M : Type 1} → statement M
@@ -21,6 +23,7 @@ put-accepted-spec =
     tie.close
     (tie.spec
     (λ c κs. search needs)
+    (λ c. search needs) (λ c. search needs) (λ c κs. search needs)
     (λ c. search needs) (λ c. search needs) (λ c κs. search needs)
     (λ c. search needs) (λ c. search needs) (λ c κs. search needs)
     (λ c. search needs) (λ c κs. search needs)
