@@ -151,7 +151,7 @@ static uint64_t call(enum job job, bool library, const struct input *in, uint8_t
         return (library ? krossvil_check_table : plain_check_table)(in->table, in->table_len);
     case CHECK_JOURNAL:
         return (library ? krossvil_check_journal : plain_check_journal)(in->table, in->table_len, in->journal,
-                                                                        in->journal_len, answer, 24);
+                                                                        in->journal_len, answer, 28);
     case RUN:
         return (library ? krossvil_run : plain_run)(in->table, in->table_len, in->stimulus, in->stimulus_len, room,
                                                     sizeof room, answer, 4);
@@ -170,7 +170,7 @@ static void same_answers(enum job job)
 {
     static uint8_t first[KROSSVIL_JOURNAL_MAX];
     for (int k = 0; k < ROTATION; k++) {
-        uint8_t a[24] = { 0 }, b[24] = { 0 };
+        uint8_t a[28] = { 0 }, b[28] = { 0 };
         memset(room, 0, sizeof room);
         uint64_t x = call(job, true, &inputs[k], a);
         memcpy(first, room, sizeof room);
@@ -197,7 +197,7 @@ static volatile uint64_t sink;
 /* Nanoseconds a call, over the rotation so many times. */
 static double time_calls(enum job job, bool library, int times)
 {
-    uint8_t answer[24];
+    uint8_t answer[28];
     uint64_t sum = 0;
     double start = now();
     for (int n = 0; n < times; n++)
@@ -224,7 +224,7 @@ __attribute__((noinline)) static void mark(void)
 
 static void count(const char *name, enum job job)
 {
-    uint8_t answer[24];
+    uint8_t answer[28];
     mark();
     sink = call(job, true, &inputs[0], answer);
     mark();

@@ -540,7 +540,7 @@ static void damage_pieces(const struct plan *plan)
 enum entry { CHECK_TABLE, CHECK_JOURNAL, RUN, REACTION, ENTRIES };
 
 static const char *const entry_names[ENTRIES] = { "check_table", "check_journal", "run", "reaction" };
-static const size_t answer_sizes[ENTRIES] = { 0, 24, 4, 8 };
+static const size_t answer_sizes[ENTRIES] = { 0, 28, 4, 8 };
 
 struct call {
     enum entry entry;
@@ -922,19 +922,19 @@ static void paper_cases(void)
 #define RUN_TO_3 "I0 c1,1 p2,1 t2,1 k3,1 c3,0 p5,0 t5,0 k6,1 "
     static const struct {
         const char *journal;
-        uint64_t wanted[7];
+        uint64_t wanted[8];
     } journals[] = {
-        { RUN_TO_3 "p7,0 t8,0 k9,1 p10,0 t10,1 k11,0 e12", { 0, 12, 4, 2, 0, 0, 4 } },
+        { RUN_TO_3 "p7,0 t8,0 k9,1 p10,0 t10,1 k11,0 e12", { 0, 12, 4, 2, 0, 0, 4, 3 } },
         { RUN_TO_3 "p7,0 t8,1 k9,1 p10,0 t10,1 k11,0 e12", { REFUSED(28, 76) } },
-        { "I0 e0", { 0, 0, 0, 0, 0, 0, 0 } },
+        { "I0 e0", { 0, 0, 0, 0, 0, 0, 0, 0 } },
         { "", { REFUSED(20, 0) } },
-        { RUN_TO_3 "p7,0 t8,0 e8", { 0, 8, 2, 1, 1, 1, 4 } },
-        { RUN_TO_3 "p7,0 t9,1 e9", { 0, 9, 2, 1, 1, 1, 4 } },
+        { RUN_TO_3 "p7,0 t8,0 e8", { 0, 8, 2, 1, 1, 1, 4, 3 } },
+        { RUN_TO_3 "p7,0 t9,1 e9", { 0, 9, 2, 1, 1, 1, 4, 3 } },
         { RUN_TO_3 "p7,0 t9,0 e9", { REFUSED(28, 76) } },
-        { "I0 p1,0 t1,1 k3,0 e3", { 0, 3, 1, 0, 0, 0, 0 } },
+        { "I0 p1,0 t1,1 k3,0 e3", { 0, 3, 1, 0, 0, 0, 0, 3 } },
         { "I0 p1,0 t1,1 k4,0 e4", { REFUSED(25, 20) } },
         { "I0 c1,1 p1,1 e1", { REFUSED(27, 12) } },
-        { "I0 p1,0 c1,1 e1", { 0, 1, 0, 0, 0, 0, 0 } },
+        { "I0 p1,0 c1,1 e1", { 0, 1, 0, 0, 0, 0, 0, 0 } },
     };
     static const struct {
         uint32_t states, inputs;
@@ -946,7 +946,7 @@ static void paper_cases(void)
     };
     struct plan plan = classroom();
     size_t starts[6];
-    struct call call = { .table = &table, .input = &input, .answer_len = 28 };
+    struct call call = { .table = &table, .input = &input, .answer_len = 32 };
     char label[64];
 
     write_table(&plan, 2, 2, &table, starts);

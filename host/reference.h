@@ -3,7 +3,7 @@
  * the start of `answer`, four bytes each, most significant byte first.
  *
  *   check_table    no numbers
- *   check_journal  T, ticks, moves, last state, its output, the most ticks left at a test
+ *   check_journal  T, ticks, moves, last state, its output, the most ticks left at a test, the longest cycle
  *   run            the journal's length
  *   reaction       reaction time, target
  *

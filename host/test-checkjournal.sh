@@ -86,7 +86,7 @@ same 'the changed verdict has the classroom table' examples/changed-verdict/tabl
 # ---- The runs of the classroom table
 
 fresh
-prints 'the classroom run' 'accepted end=12 cycles=4 moves=2 state=0 output=0 left=4'
+prints 'the classroom run' 'accepted end=12 cycles=4 moves=2 state=0 output=0 left=4 longest=3'
 
 fresh
 cp "$root/examples/changed-verdict/journal.bin" .
@@ -94,7 +94,7 @@ prints 'the test at 8 with verdict 1' 'refused 28 at 76'
 
 fresh
 { put 10000100; end 0; } >journal.bin
-prints 'opening field and end at 0' 'accepted end=0 cycles=0 moves=0 state=0 output=0 left=0'
+prints 'opening field and end at 0' 'accepted end=0 cycles=0 moves=0 state=0 output=0 left=0 longest=0'
 
 # ---- Files that are missing, empty or no files
 
@@ -162,7 +162,7 @@ prints 'a byte after the journal' 'refused 22 at 123'
 
 fresh
 { repeats 8190; end 0; } >journal.bin
-prints 'the longest journal that can be accepted, 65,531 bytes' 'accepted end=0 cycles=0 moves=0 state=0 output=0 left=0'
+prints 'the longest journal that can be accepted, 65,531 bytes' 'accepted end=0 cycles=0 moves=0 state=0 output=0 left=0 longest=0'
 
 fresh
 { repeats 8190; end 0; zeros 5; } >journal.bin
@@ -215,7 +215,7 @@ fresh
     done
     end 120
 } >journal.bin
-prints 'a tick at each instant' 'accepted end=120 cycles=120 moves=0 state=0 output=0 left=0'
+prints 'a tick at each instant' 'accepted end=120 cycles=120 moves=0 state=0 output=0 left=0 longest=1'
 
 # 32 states, inputs and outputs; E is 60,000; state q has output q; input i leads to state i; no holds.
 each=$(printf '%02x' {0..31})
@@ -243,7 +243,7 @@ cp "$room/largest.bin" table.bin
     record 14 60000 31
     end 120000
 } >journal.bin
-prints 'the largest table' 'accepted end=120000 cycles=1 moves=1 state=31 output=31 left=0'
+prints 'the largest table' 'accepted end=120000 cycles=1 moves=1 state=31 output=31 left=0 longest=60000'
 
 echo "$passed passed, $failed failed"
 [ "$failed" -eq 0 ]

@@ -82,15 +82,16 @@ extern "C" {
 #define KROSSVIL_RUN_STACK 80000u /* bytes of stack that are enough for krossvil_run */
 #define KROSSVIL_STACK 12000u     /* and for the other functions */
 
-#define KROSSVIL_JOURNAL_ANSWER 24u /* bytes of answer on success: T, ticks, moves, last state, its output, ticks left */
+#define KROSSVIL_JOURNAL_ANSWER 28u /* bytes of answer on success: T, ticks, moves, last state, its output, left, longest */
 #define KROSSVIL_RUN_ANSWER 4u      /* the journal's length in bytes */
 #define KROSSVIL_REACTION_ANSWER 8u /* reaction time, target set */
 
 /* Does the table pass? There are no further numbers. */
 uint64_t krossvil_check_table(const uint8_t *table, size_t table_len);
 
-/* Is the journal a run of the table's machine? Answer, 24 bytes: T, the number of ticks, the number of moves (ticks that change the
- * state), the last state, its output, and the most ticks that a held test had left until its hold was passed (0 if none was held). */
+/* Is the journal a run of the table's machine? Answer, 28 bytes: T, the number of ticks, the number of moves (ticks that change the
+ * state), the last state, its output, the most ticks that a held test had left until its hold was passed (0 if none was held), and
+ * the longest completed cycle, from a tick or from 0 to the next tick (0 if there was none). */
 uint64_t krossvil_check_journal(const uint8_t *table, size_t table_len, const uint8_t *journal, size_t journal_len,
                                 uint8_t *answer, size_t answer_len);
 

@@ -24,5 +24,6 @@ pub fn show(answer: Answer) {
     print::number(b", state ", n.state as u64);
     print::number(b", output ", n.output as u64);
     print::number(b", left ", n.left as u64);
+    print::number(b", longest ", n.longest as u64);
     print::end_line();
 }

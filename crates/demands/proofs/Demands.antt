@@ -21,11 +21,13 @@ use Rattle.records.specs.Form.{longestJournal}
 use Rattle.records.proofs.Written.{records-are-one, journal-recovers}
 use Rattle.records.specs.Record.{isTest}
 use Rattle.machine.specs.Machine.{start, left, after}
-use Rattle.machine.specs.Run.{ticksOf, movesOf, mostLeft}
+use Rattle.machine.specs.Run.{Runs, ticksOf, movesOf, mostLeft}
 use Rattle.machine.specs.Walk.{inTable}
 use Rattle.machine.specs.declared.Machine.{Machine}
 use Rattle.machine.specs.Most.{MostOf}
+use Rattle.machine.specs.Longest.{LongestOf}
 use Rattle.machine.proofs.Left.{left-is-most}
+use Rattle.machine.proofs.Longest.{longest-is-cycle}
 use Rattle.journal.specs.declared.Numbers.{Numbers}
 use Rattle.journal.specs.declared.Answer.the-variants.{Accepted}
 use Rattle.journal.specs.Check.{checkOf}
@@ -42,7 +44,7 @@ use Rattle.runs.proofs.OneMove.{one-move}
 use Rattle.laws.specs.Journals.{JournalOf, AcceptedRun}
 use Rattle.laws.proofs.Tables.{holds-that-table}
 use Rattle.laws.proofs.Journals.{ends-at, left-end, under, accepts-exactly, checks-exactly}
-use Rattle.demands.specs.Demands.{Holds, HoldsRun, LeftTold, AcceptedIsRun, LeftIsMost, AcceptedJournal, NotTooSoon, NotTooLate}
+use Rattle.demands.specs.Demands.{Holds, HoldsRun, LeftTold, LongestTold, AcceptedIsRun, LeftIsMost, LongestIsCycle, AcceptedJournal, NotTooSoon, NotTooLate}
 
 -- ---- Acceptance
 
@@ -55,20 +57,21 @@ run-accepted {t} {n = n} a = record {
   ends = sym (ends-at t (n .end) (start (t .initial) (a .input)) (a .last) (a .records) (a .runs));
 }
 
-abbrev ran : Table → ℕ → ℕ → List Record → ℕ → Numbers
-ran t input T before state = record {
+abbrev ran : Table → ℕ → ℕ → List Record → Machine → Numbers
+ran t input T before last = record {
   end = T;
   ticks = ticksOf before;
   moves = movesOf (t .initial) before;
-  state = state;
-  output = outputOf t state;
+  state = last .state;
+  output = outputOf t (last .state);
   left = mostLeft t (start (t .initial) input) before;
+  longest = last .longest;
 }
 
 accepts-run : {t : Table} {s : List ℕ} {T input : ℕ} {before : List Record} →
     length s ≤ longestJournal → JournalOf t s input before T →
     (a : runs.Accepted t input (before ++ End T ∷ []) T) →
-    AcceptedRun form.journal t s (ran t input T before (a .last .state))
+    AcceptedRun form.journal t s (ran t input T before (a .last))
 accepts-run {input = input} {before = before} short journal a = record {
   short = short;
   input = input;
@@ -81,10 +84,15 @@ accepts-run {input = input} {before = before} short journal a = record {
   state-is = refl;
   output-is = refl;
   left-is = refl;
+  longest-is = refl;
 }
 
 most-of : (t : Table) (m : Machine) (rs : List Record) (most : ℕ) → most ≡ mostLeft t m rs → MostOf (after t) isTest (left t) m rs most
 most-of t m rs most is = rw is (left-is-most t m rs)
+
+longest-of : (t : Table) (input : ℕ) (rs : List Record) (last : Machine) → Runs t (start (t .initial) input) rs last → (longest : ℕ) →
+    longest ≡ last .longest → LongestOf t rs longest
+longest-of t input rs last runs longest is = rw is (longest-is-cycle t (t .initial) input rs last runs)
 
 -- What the bytes of an accepted journal hold.
 module _ (table journal : List ℕ) (table-bytes : Bytes table) (bytes : Bytes journal) (n : Numbers) (answer : checkOf table journal ≡ Accepted n) where
@@ -122,6 +130,15 @@ module _ (table journal : List ℕ) (table-bytes : Bytes table) (bytes : Bytes j
     most = most-of (found .0) _ all (n .left) (found .3 .left-is ∙ sym (left-end (found .0) _ (found .3 .records) (n .end)));
   }
 
+  longest-told : LongestTold table journal n
+  longest-told = record {
+    t = found .0;
+    input = found .3 .input;
+    records = all;
+    holds = held;
+    longest = longest-of (found .0) (found .3 .input) all (found .3 .last) (found .3 .runs) (n .longest) (found .3 .longest-is);
+  }
+
 pub accepted-is-run : AcceptedIsRun
 accepted-is-run table journal table-bytes bytes T = (
   λ a. rw (← a .end-is) (to-run table journal table-bytes bytes (a .numbers) (a .answer)),
@@ -139,6 +156,9 @@ accepted-is-run table journal table-bytes bytes T = (
 
 pub left-is-the-most : LeftIsMost
 left-is-the-most table journal table-bytes bytes n answer = left-told table journal table-bytes bytes n answer
+
+pub longest-is-a-cycle : LongestIsCycle
+longest-is-a-cycle table journal table-bytes bytes n answer = longest-told table journal table-bytes bytes n answer
 
 -- ---- The table and the records of an accepted journal
 

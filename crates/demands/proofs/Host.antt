@@ -54,7 +54,7 @@ module _ (table s : List ℕ) (room : ℕ) where
       (λ pass. rw pass (under-zero (tableIn table) (runOver journal (tableIn table) s) (rw pass at e)))
       (λ r other. absurd (not-zero (replyOf (answer.TableRefused (tableAnswer table))) (table-numbered (tableAnswer table) r) room (rw r at e)))
 
-module _ (table s before : List ℕ) (table-bytes : Bytes table) (bytes : Bytes s) (enough : 24 ≤ length before) where
+module _ (table s before : List ℕ) (table-bytes : Bytes table) (bytes : Bytes s) (enough : 28 ≤ length before) where
   fits : (n : Numbers) → checkOf table s ≡ answer.Accepted n → journalTold table s (length before) ≡ gives (listed n)
   fits n is = ap (λ a. told (replyOf a) (length before)) is ∙ told-fits (replyOf (answer.Accepted n)) (length before) enough
 

@@ -82,23 +82,24 @@ reply is expected = record { reply = reply; expected = expected }
 
 abbrev pub cases : List Case
 cases =
-    -- the run; the same with the changed verdict. The sixth number is the most ticks left: 4, at the test at 5
-    (check (encode 0 (runWith 0) 12) is gives (12 ∷ 4 ∷ 2 ∷ 0 ∷ 0 ∷ 4 ∷ [])) ∷
+    -- the run; the same with the changed verdict. The sixth number is the most ticks left: 4, at the test at 5; the
+    -- seventh the longest cycle: 3
+    (check (encode 0 (runWith 0) 12) is gives (12 ∷ 4 ∷ 2 ∷ 0 ∷ 0 ∷ 4 ∷ 3 ∷ [])) ∷
     (check (encode 0 (runWith 1) 12) is refuses 28 76) ∷
     -- opening field and end at 0; no bytes
-    (check (encode 0 [] 0) is gives (0 ∷ 0 ∷ 0 ∷ 0 ∷ 0 ∷ 0 ∷ [])) ∷
+    (check (encode 0 [] 0) is gives (0 ∷ 0 ∷ 0 ∷ 0 ∷ 0 ∷ 0 ∷ 0 ∷ [])) ∷
     (check [] is refuses 20 0) ∷
     -- entry 3, polled 0: a test at 8 is held and is not free; at 9 it is free and is not held
-    (check (encode 0 (toPollAt7 ++ Test 8 0 ∷ []) 8) is gives (8 ∷ 2 ∷ 1 ∷ 1 ∷ 1 ∷ 4 ∷ [])) ∷
+    (check (encode 0 (toPollAt7 ++ Test 8 0 ∷ []) 8) is gives (8 ∷ 2 ∷ 1 ∷ 1 ∷ 1 ∷ 4 ∷ 3 ∷ [])) ∷
     (check (encode 0 (toPollAt7 ++ Test 8 1 ∷ []) 8) is refuses 28 76) ∷
-    (check (encode 0 (toPollAt7 ++ Test 9 1 ∷ []) 9) is gives (9 ∷ 2 ∷ 1 ∷ 1 ∷ 1 ∷ 4 ∷ [])) ∷
+    (check (encode 0 (toPollAt7 ++ Test 9 1 ∷ []) 9) is gives (9 ∷ 2 ∷ 1 ∷ 1 ∷ 1 ∷ 4 ∷ 3 ∷ [])) ∷
     (check (encode 0 (toPollAt7 ++ Test 9 0 ∷ []) 9) is refuses 28 76) ∷
     -- a tick at cycle start + 3; at + 4
-    (check (encode 0 (tickAt 5) 5) is gives (5 ∷ 2 ∷ 0 ∷ 0 ∷ 0 ∷ 0 ∷ [])) ∷
+    (check (encode 0 (tickAt 5) 5) is gives (5 ∷ 2 ∷ 0 ∷ 0 ∷ 0 ∷ 0 ∷ 3 ∷ [])) ∷
     (check (encode 0 (tickAt 6) 6) is refuses 25 44) ∷
     -- a poll at the instant of a change to another input before it; a change after a poll at one instant
     (check (encode 0 (Change 1 1 ∷ Poll 1 1 ∷ []) 1) is refuses 27 12) ∷
-    (check (encode 0 (Poll 1 0 ∷ Change 1 1 ∷ []) 1) is gives (1 ∷ 0 ∷ 0 ∷ 0 ∷ 0 ∷ 0 ∷ [])) ∷
+    (check (encode 0 (Poll 1 0 ∷ Change 1 1 ∷ []) 1) is gives (1 ∷ 0 ∷ 0 ∷ 0 ∷ 0 ∷ 0 ∷ 0 ∷ [])) ∷
     -- P = {0,1} and A = {0}: c = 14, target {0}; A = {1}: c = 6, target {1}; P = {1} and A = {0}
     (react 3 1 is gives (14 ∷ 1 ∷ [])) ∷
     (react 3 2 is gives (6 ∷ 2 ∷ [])) ∷

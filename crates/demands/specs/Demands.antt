@@ -16,6 +16,7 @@ use Rattle.records.specs.Form.{longestJournal}
 use Rattle.records.specs.Record.{isTest}
 use Rattle.machine.specs.Machine.{start, left, after}
 use Rattle.machine.specs.Most.{MostOf}
+use Rattle.machine.specs.Longest.{LongestOf}
 use Rattle.journal.specs.declared.Numbers.{Numbers}
 use Rattle.journal.specs.declared.Answer.the-variants.{Accepted}
 use Rattle.journal.specs.Check.{checkOf}
@@ -64,6 +65,17 @@ pub record LeftTold (table journal : List ℕ) (n : Numbers) : Type 0 where
 
 abbrev pub LeftIsMost : Type 0
 LeftIsMost = (table journal : List ℕ) → Bytes table → Bytes journal → (n : Numbers) → checkOf table journal ≡ Accepted n → LeftTold table journal n
+
+-- The longest cycle: at most E; no completed cycle of the records is longer, some has that length if there was a tick, and else it is 0.
+pub record LongestTold (table journal : List ℕ) (n : Numbers) : Type 0 where
+  pub t : Table
+  pub input : ℕ
+  pub records : List Record
+  pub holds : Holds table journal t input records (n .end)
+  pub longest : LongestOf t records (n .longest)
+
+abbrev pub LongestIsCycle : Type 0
+LongestIsCycle = (table journal : List ℕ) → Bytes table → Bytes journal → (n : Numbers) → checkOf table journal ≡ Accepted n → LongestTold table journal n
 
 -- ---- Demand 3
 

@@ -21,7 +21,7 @@ pub record RunTold (table journal before after : List ℕ) : Type 0 where
   pub well-formed : WellFormed under
   pub table-is : table ≡ tables.encode under
   pub numbers : AcceptedRun form.journal under journal n
-  pub answer : after ≡ numberBytes (listed n) ++ drop 24 before
+  pub answer : after ≡ numberBytes (listed n) ++ drop 28 before
 
 -- 0 is given back for every such run, and for nothing else.
 pub record JudgesRuns (table journal before : List ℕ) (code : ℕ) (after : List ℕ) : Type 0 where

@@ -7,7 +7,7 @@ ghost use Rattle.demands.specs.Host.{JudgesRuns};
 
 // The journal check as a host program calls it, with an answer buffer that has room for the numbers.
 pub fn judge(table: &[u8], journal: &[u8], answer: &mut [u8]) -> u64
-    ensures { λ r. ⌜ (24 ≤ length (now (answer .entry)) → JudgesRuns (now (table .entry)) (now (journal .entry)) (now (answer .entry)) r (now (answer .exit))) ⌝ }
+    ensures { λ r. ⌜ (28 ≤ length (now (answer .entry)) → JudgesRuns (now (table .entry)) (now (journal .entry)) (now (answer .entry)) r (now (answer .exit))) ⌝ }
 {
     krossvil::krossvil_check_journal(table, journal, answer)
 }

@@ -86,6 +86,7 @@ module _ (F : Form) (valued : F .valued ≡ true) (t : Table) (s : List ℕ) (n 
         a .ticks-are,
         a .moves-are,
         a .left-is,
+        a .longest-is,
         ← time,
       )
 
@@ -108,6 +109,7 @@ module _ (F : Form) (valued : F .valued ≡ true) (t : Table) (s : List ℕ) (n 
         state-is = sym (ap (λ x. x .state) is);
         output-is = sym (ap (λ x. x .output) is) ∙ ap (λ x. outputOf t (x .state)) is;
         left-is = sym (ap (λ x. x .left) is) ∙ ap (mostLeft t (start (t .initial) input)) all ∙ left-end t (start (t .initial) input) (h .said) (h .end);
+        longest-is = sym (ap (λ x. x .longest) is);
       }
 
   accepted-run : Recovers F → Bytes s → answerIn F t s ≡ Accepted n → AsRun

@@ -211,6 +211,7 @@ writes-accepted t good s input es end st j e short =
       state = state;
       output = outputOf t state;
       left = mostLeft t (start (t .initial) input) (f .inside);
+      longest = f .last .longest;
     } in
     let a : AcceptedRun form.journal t j n = record {
       short = short;
@@ -224,6 +225,7 @@ writes-accepted t good s input es end st j e short =
       state-is = refl;
       output-is = refl;
       left-is = refl;
+      longest-is = refl;
     } in
     (n, refl, refl, run-accepted form.journal refl t j n a)
 

@@ -42,6 +42,7 @@ pub record AcceptedRun (F : Form) (t : Table) (s : List ℕ) (n : Numbers) : Typ
   pub state-is : n .state ≡ last .state
   pub output-is : n .output ≡ outputOf t (n .state)
   pub left-is : n .left ≡ mostLeft t (start (t .initial) input) records
+  pub longest-is : n .longest ≡ last .longest
 
 -- Under a table the bytes that are accepted are exactly the records, in this form, that its machine runs. The form says every value.
 abbrev pub AcceptsExactly : Form → Type 0

@@ -4,8 +4,8 @@ use Rattle.records.specs.declared.Refusal.the-variants.{Differs}
 use Rattle.journal.specs.declared.Answer.the-variants.{Accepted, Refused}
 use Rattle.line.specs.Line.{text, digitsOf, lineWith, lineFor, lineOf}
 
-pub accepted-line : lineOf (Accepted (record { end = 12; ticks = 4; moves = 2; state = 0; output = 0; left = 4 })) ≡
-    text "accepted end=12 cycles=4 moves=2 state=0 output=0 left=4\n"
+pub accepted-line : lineOf (Accepted (record { end = 12; ticks = 4; moves = 2; state = 0; output = 0; left = 4; longest = 3 })) ≡
+    text "accepted end=12 cycles=4 moves=2 state=0 output=0 left=4 longest=3\n"
 unfolding digitsOf lineWith lineFor
 accepted-line = refl
 

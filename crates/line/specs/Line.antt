@@ -41,13 +41,16 @@ lineWith [] numbers = text "\n"
 lineWith (name ∷ names) [] = text "\n"
 lineWith (name ∷ names) (n ∷ numbers) = text name ++ decimal n ++ lineWith names numbers
 
--- The names of what an accepted journal gives, in the reply's order: how long the run was, then where it ended
--- and the most ticks left at a test.
+-- The names of what an accepted journal gives, in the reply's order: how long the run was, where it ended, and then the most ticks left at
+-- a test and the longest cycle.
 abbrev pub lengthNames : List String
 lengthNames = "accepted end=" ∷ " cycles=" ∷ " moves=" ∷ []
 
+abbrev pub lastNames : List String
+lastNames = " state=" ∷ " output=" ∷ []
+
 abbrev pub acceptedNames : List String
-acceptedNames = lengthNames ++ " state=" ∷ " output=" ∷ " left=" ∷ []
+acceptedNames = lengthNames ++ (lastNames ++ (" left=" ∷ " longest=" ∷ []))
 
 -- And of a refusal's number and place.
 

@@ -5,7 +5,7 @@ ghost use Prim.Native.Nat.{_+_, _≤_};
 ghost use lib.ListN.{length};
 ghost use Rattle.io.specs.Counts.{Counts};
 ghost use Rattle.journal.specs.Answer.{listed};
-ghost use Rattle.line.specs.Line.{Puts, decimal, named, lineWith, lengthNames, acceptedNames, refusedNames, lineOf};
+ghost use Rattle.line.specs.Line.{Puts, decimal, named, lineWith, lengthNames, lastNames, acceptedNames, refusedNames, lineOf};
 use journal::Answer;
 use journal::Numbers;
 
@@ -39,14 +39,24 @@ fn put_length(out: &mut [u8; 256], n: Numbers) -> usize
     put_number(out, at, b" moves=", n.moves as u64)
 }
 
-// Then where it ended, and the most ticks left at a test.
+// Where it ended.
+fn put_last(out: &mut [u8; 256], at: usize, n: Numbers) -> usize
+    requires { ⌜ at ≤ 88 ⌝ }
+    ensures puts { λ r. ⌜ Puts (named lastNames (n .state ∷ n .output ∷ [])) (now (out .entry)) at (now (out .exit)) r ⌝ }
+    ensures short { λ r. ⌜ r ≤ 143 ⌝ }
+{
+    let at = put_number(out, at, b" state=", n.state as u64);
+    put_number(out, at, b" output=", n.output as u64)
+}
+
+// Then the most ticks left at a test, and the longest cycle.
 fn put_accepted(out: &mut [u8; 256], n: Numbers) -> usize
     ensures { λ r. ⌜ Puts (lineWith acceptedNames (listed n)) (now (out .entry)) 0 (now (out .exit)) r ⌝ }
 {
     let at = put_length(out, n);
-    let at = put_number(out, at, b" state=", n.state as u64);
-    let at = put_number(out, at, b" output=", n.output as u64);
+    let at = put_last(out, at, n);
     let at = put_number(out, at, b" left=", n.left as u64);
+    let at = put_number(out, at, b" longest=", n.longest as u64);
     put_text(out, at, b"\n")
 }
 

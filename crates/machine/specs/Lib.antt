@@ -3,6 +3,7 @@ pub mod Machine
 pub mod Most
 pub mod Run
 pub mod Left
+pub mod Longest
 pub mod Walk
 pub mod Turn
 pub mod Lent
