@@ -14,8 +14,8 @@ use Rattle.table.specs.Answer as table-answer
 use Rattle.runtime.specs.declared.Answer as runtime′
 use Rattle.runtime.specs.declared.Answer.the-variants as made
 use Rattle.runtime.specs.Answer as run-answer
-use Rattle.runtime.specs.Run.{Made, runOf, answerOf, bufferOf}
-use Rattle.krossvil.specs.Host.{told, codeOf, numberBytes, answerAfter, journalTold, runTold, journalAfter, reactionTold}
+use Rattle.runtime.specs.Run.{runOf, answerOf, bufferOf}
+use Rattle.krossvil.specs.Host.{told, codeOf, numberBytes, answerAfter, journalTold, runTold, bufferAfter, reactionTold}
 use Rattle.laws.proofs.Never28.{never-differs}
 use Rattle.demands.proofs.Numbered.{table-numbered, refusal-numbered}
 use Rattle.demands.specs.Contracts.{EveryEntryDetermines, EveryRefusalKeeps, RunNeverDiffers}
@@ -27,7 +27,7 @@ unfolding numberBytes
 answer-kept (gives values) answer other = absurd (other refl)
 answer-kept (refuses number place) answer other = refl
 
--- And the journal buffer too, since no refusal has number 0.
+-- And a buffer that is written to, since no refusal has number 0.
 abbrev Numbered : Reply → Type 0
 Numbered (gives values) = Unit
 Numbered (refuses number place) = (number =? 0) ≡ false
@@ -55,10 +55,10 @@ told-numbered reply room h = go (room <? 4 * length (valuesIn reply))
     go true = refl
     go false = h
 
-journal-kept : (reply : Reply) → Numbered reply → (m : Made) (buffer : List ℕ) → (codeOf reply ≡ 0 → ⊥) → journalAfter reply m buffer ≡ buffer
-unfolding journalAfter
-journal-kept (gives values) h m buffer other = absurd (other refl)
-journal-kept (refuses number place) h m buffer other = rw h refl
+buffer-kept : (reply : Reply) → Numbered reply → (written buffer : List ℕ) → (codeOf reply ≡ 0 → ⊥) → bufferAfter reply written buffer ≡ buffer
+unfolding bufferAfter
+buffer-kept (gives values) h written buffer other = absurd (other refl)
+buffer-kept (refuses number place) h written buffer other = rw h refl
 
 -- ---- The entries
 
@@ -98,7 +98,7 @@ every-refusal-keeps = (
       let made-is = runOf (now (a .0)) (now (a .1 .0)) in
       let reply = runTold (now (a .0)) (now (a .1 .0)) buffer (length answer) in
       let numbered = told-numbered (run-answer.replyOf (answerOf made-is (length buffer))) (length answer) (run-numbered (answerOf made-is (length buffer))) in
-      two (p .1 .1 ∙ journal-kept reply numbered made-is buffer (λ e. other (p .0 ∙ e))) (p .1 .0 ∙ answer-kept reply answer (λ e. other (p .0 ∙ e))),
+      two (p .1 .1 ∙ buffer-kept reply numbered (bufferOf made-is buffer) buffer (λ e. other (p .0 ∙ e))) (p .1 .0 ∙ answer-kept reply answer (λ e. other (p .0 ∙ e))),
   λ κs a r s p other.
       let answer = now (a .1 .1 .1 .0) in
       one (p .1 ∙ answer-kept (reactionTold (now (a .0)) (a .1 .0) (a .1 .1 .0) (length answer)) answer (λ e. other (p .0 ∙ e))),

@@ -1,3 +1,5 @@
 pub mod TablePlaces
 pub mod Places
 pub mod Outcomes
+pub mod Writers
+pub mod Runs

@@ -1,7 +1,6 @@
 -- What each entry owes the host, whatever the entry.
-use mathlib.Core.Path.{_≡_, refl, sym, ap, _∙_}
+use mathlib.Core.Path.{_≡_, refl, ap, _∙_}
 use mathlib.Core.List.{List, [], _∷_, _++_}
-use mathlib.Core.Bool.{Bool, true, false}
 use Prim.Native.Nat.{ℕ, suc, _+_, _*_, _<_, _≤_}
 use native.Mathlib.Omega.{arith}
 use borrow.Author.Tests.{lt-ltb, le-ltb}
@@ -9,7 +8,6 @@ use types.Run.{OneOf, miss}
 use denote.Enum.Declared.{tagOf}
 use lib.ListN.{length, getD, take, drop, length-append, length-drop}
 use lib.Seq.{drop-append-add, length-take-le, take-all, take-at, take-suc, drop-drop}
-use Rattle.wire.specs.Choice.{_<?_, _=?_, if_then_else_}
 use Rattle.wire.specs.Encode.{bytes32, placedIn}
 use Rattle.wire.specs.Reply.{Reply, gives, refuses, numberIn, placeIn, valuesIn}
 use Rattle.journal.specs.declared.Answer as journal′
@@ -19,15 +17,12 @@ use Rattle.journal.proofs.Answer as JournalT
 use Rattle.runtime.specs.declared.Answer as runtime′
 use Rattle.runtime.specs.declared.Answer.the-variants as made
 use Rattle.runtime.specs.Answer as runtime
-use Rattle.runtime.specs.Run as run
-use Rattle.runtime.specs.Run.{Made, answerOf, bufferOf}
 use Rattle.runtime.proofs.Answer as RuntimeT
-use Rattle.records.specs.Form.{longestJournal}
 use Rattle.reaction.specs.declared.Answer as reaction′
 use Rattle.reaction.specs.declared.Answer.the-variants as reacted
 use Rattle.reaction.specs.Answer as reaction
 use Rattle.reaction.proofs.Answer as ReactionT
-use Rattle.krossvil.specs.Host.{told, numbered, codeOf, numberBytes, answerAfter, journalAfter}
+use Rattle.krossvil.specs.Host.{told, numbered, codeOf, numberBytes, answerAfter}
 use Rattle.krossvil.specs.Small.{Fits}
 use Rattle.krossvil.proofs.TablePlaces.{table-none}
 
@@ -92,106 +87,10 @@ reaction-none reacted.UnknownState h = refl
 reaction-none reacted.UnknownInput h = refl
 reaction-none (reacted.LeavesStates at) h = refl
 
--- ---- The runtime
-
--- The code, the answer buffer and the journal buffer.
-abbrev RunOwed : Made → List ℕ → List ℕ → ℕ → List ℕ → List ℕ → Type 0
-RunOwed m buffer before code after written =
-    let reply = told (runtime.replyOf (answerOf m (length buffer))) (length before) in
-    (code ≡ codeOf reply) × ((after ≡ answerAfter reply before) × (written ≡ journalAfter reply m buffer))
-
-stays : (reply : Reply) (m : Made) (buffer : List ℕ) → (numberIn reply =? 0) ≡ false → buffer ≡ journalAfter reply m buffer
-unfolding journalAfter
-stays reply m buffer e = rw e refl
-
-refusal-told : (number place : ℕ) → (number =? 0) ≡ false → (room : ℕ) → (numberIn (told (refuses number place) room) =? 0) ≡ false
-unfolding told
-refusal-told number place e room = go (room <? 0)
-  where
-    go : (b : Bool) → (numberIn (if b then refuses 30 0 else refuses number place) =? 0) ≡ false
-    go true = refl
-    go false = e
-
--- With room for no number, the room for the journal makes no difference: a success is 30 at 0 either way, and both buffers are as they were.
-module _ (answer : List ℕ) (short : length answer < 4) where
-  told-short : (n : ℕ) → told (gives (n ∷ [])) (length answer) ≡ told (refuses 30 0) (length answer)
-  unfolding told
-  told-short n = rw (lt-ltb (length answer) 4 short, le-ltb (length answer) 0 (omega arith)) refl
-
-  any-room : (m : Made) (room other : ℕ) →
-      told (runtime.replyOf (answerOf m room)) (length answer) ≡ told (runtime.replyOf (answerOf m other)) (length answer)
-  unfolding answerOf
-  any-room (run.refused a) room other = refl
-  any-room (run.journal bytes) room other = go (longestJournal <? length bytes) (room <? length bytes) (other <? length bytes)
-    where
-      reply : Bool → Bool → Reply
-      reply long full = runtime.replyOf (if long then made.JournalTooLong else if full then made.BufferTooShort else made.Written (length bytes))
-
-      go : (long b c : Bool) → told (reply long b) (length answer) ≡ told (reply long c) (length answer)
-      go true b c = refl
-      go false true true = refl
-      go false true false = sym (told-short (length bytes))
-      go false false true = told-short (length bytes)
-      go false false false = refl
-
-  -- A refusal leaves the buffer as it is; a success is told as one.
-  kept : (m : Made) (buffer : List ℕ) → buffer ≡ journalAfter (told (runtime.replyOf (answerOf m (length buffer))) (length answer)) m buffer
-  unfolding journalAfter bufferOf answerOf
-  kept (run.refused a) buffer = go (numberIn (told (runtime.replyOf a) (length answer)) =? 0) (numberIn (runtime.replyOf a) =? 0)
-    where
-      go : (b c : Bool) → buffer ≡ (if b then (if c then buffer else buffer) else buffer)
-      go true true = refl
-      go true false = refl
-      go false c = refl
-  kept (run.journal bytes) buffer = go (longestJournal <? length bytes) (length buffer <? length bytes)
-    where
-      go : (long full : Bool) →
-          buffer ≡ journalAfter (told (runtime.replyOf (if long then made.JournalTooLong else if full then made.BufferTooShort else made.Written (length bytes)))
-          (length answer)) (run.journal bytes) buffer
-      go true full = stays (told (refuses 29 0) (length answer)) (run.journal bytes) buffer (refusal-told 29 0 refl (length answer))
-      go false true = stays (told (refuses 30 0) (length answer)) (run.journal bytes) buffer (refusal-told 30 0 refl (length answer))
-      go false false =
-          stays (told (gives (length bytes ∷ [])) (length answer)) (run.journal bytes) buffer
-          (ap (λ r. numberIn r =? 0) (told-short (length bytes)) ∙ refusal-told 30 0 refl (length answer))
-
-  pub short-owed : (m : Made) (room : ℕ) (buffer : List ℕ) (a : runtime′.Answer) → a ≡ answerOf m room → (code : ℕ) (after : List ℕ) →
-      Owed (runtime.replyOf a) answer code after → RunOwed m buffer answer code after buffer
-  short-owed m room buffer a is code after owed =
-      let same = ap (λ x. told (runtime.replyOf x) (length answer)) is ∙ any-room m room (length buffer) in
-      (owed .0 ∙ ap codeOf same, (owed .1 ∙ ap (λ x. answerAfter x answer) same, kept m buffer))
-
+-- With room for its numbers a reply is told as it is.
 pub told-fits : (reply : Reply) (room : ℕ) → 4 * length (valuesIn reply) ≤ room → told reply room ≡ reply
 unfolding told
 told-fits reply room h = rw (le-ltb room (4 * length (valuesIn reply)) h) refl
-
-few-values : (a : runtime′.Answer) → length (valuesIn (runtime.replyOf a)) ≤ 1
-few-values (made.Written size) = omega arith
-few-values (made.TableRefused answer) = rw (table-none answer) (omega arith)
-few-values made.TooLong = omega arith
-few-values (made.Refused refusal place) = omega arith
-few-values made.JournalTooLong = omega arith
-few-values made.BufferTooShort = omega arith
-
--- With room for the number the buffer goes by the answer itself.
-told-long : (answer : List ℕ) → 4 ≤ length answer → (m : Made) (buffer : List ℕ) →
-    bufferOf m buffer ≡ journalAfter (told (runtime.replyOf (answerOf m (length buffer))) (length answer)) m buffer
-unfolding journalAfter bufferOf
-told-long answer long m buffer =
-    let reply = runtime.replyOf (answerOf m (length buffer)) in
-    let few = few-values (answerOf m (length buffer)) in
-    rw (told-fits reply (length answer) (omega arith)) (go (numberIn reply =? 0))
-  where
-    go : (b : Bool) → (if b then run.bytesOf m ++ drop (length (run.bytesOf m)) buffer else buffer) ≡
-        (if b then (if b then run.bytesOf m ++ drop (length (run.bytesOf m)) buffer else buffer) else buffer)
-    go true = refl
-    go false = refl
-
-pub long-owed : (answer : List ℕ) → 4 ≤ length answer → (m : Made) (buffer written : List ℕ) → written ≡ bufferOf m buffer →
-    (a : runtime′.Answer) → a ≡ answerOf m (length buffer) → (code : ℕ) (after : List ℕ) →
-    Owed (runtime.replyOf a) answer code after → RunOwed m buffer answer code after written
-long-owed answer long m buffer written w a is code after owed =
-    let same = ap (λ x. told (runtime.replyOf x) (length answer)) is in
-    (owed .0 ∙ ap codeOf same, (owed .1 ∙ ap (λ x. answerAfter x answer) same, w ∙ told-long answer long m buffer))
 
 -- ---- Numbers put one after another
 

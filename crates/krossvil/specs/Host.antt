@@ -8,7 +8,7 @@ use Rattle.wire.specs.Reply.{Reply, refuses, numberIn, placeIn, valuesIn}
 use Rattle.journal.specs.Answer as journal
 use Rattle.journal.specs.Check.{checkOf}
 use Rattle.runtime.specs.Answer as runtime
-use Rattle.runtime.specs.Run.{Made, runOf, answerOf, bufferOf}
+use Rattle.runtime.specs.Run.{runOf, answerOf, bufferOf}
 use Rattle.reaction.specs.Answer as reaction
 use Rattle.reaction.specs.Reaction.{reactOf}
 
@@ -32,6 +32,10 @@ numberBytes (n ∷ rest) = bytes32 n ++ numberBytes rest
 abbrev pub answerAfter : Reply → List ℕ → List ℕ
 answerAfter reply answer = numberBytes (valuesIn reply) ++ drop (4 * length (valuesIn reply)) answer
 
+-- A buffer that an entry writes to changes only if the host is told of a success.
+unfoldable pub bufferAfter : Reply → List ℕ → List ℕ → List ℕ
+bufferAfter reply written buffer = if numberIn reply =? 0 then written else buffer
+
 -- ---- What each entry tells. The table check has no numbers.
 
 abbrev pub journalTold : List ℕ → List ℕ → ℕ → Reply
@@ -41,12 +45,8 @@ journalTold table records room = told (journal.replyOf (checkOf table records)) 
 abbrev pub runTold : List ℕ → List ℕ → List ℕ → ℕ → Reply
 runTold table stimulus buffer room = told (runtime.replyOf (answerOf (runOf table stimulus) (length buffer))) room
 
--- The journal buffer changes only if the host is told of a success.
-unfoldable pub journalAfter : Reply → Made → List ℕ → List ℕ
-journalAfter reply made buffer = if numberIn reply =? 0 then bufferOf made buffer else buffer
-
 abbrev pub runJournal : List ℕ → List ℕ → List ℕ → ℕ → List ℕ
-runJournal table stimulus buffer room = journalAfter (runTold table stimulus buffer room) (runOf table stimulus) buffer
+runJournal table stimulus buffer room = bufferAfter (runTold table stimulus buffer room) (bufferOf (runOf table stimulus) buffer) buffer
 
 abbrev pub reactionTold : List ℕ → ℕ → ℕ → ℕ → Reply
 reactionTold table P A room = told (reaction.replyOf (reactOf table P A)) room
