@@ -15,10 +15,12 @@ uint64_t second_check_table(const uint8_t *, size_t);
 uint64_t second_check_journal(const uint8_t *, size_t, const uint8_t *, size_t, uint8_t *, size_t);
 uint64_t second_run(const uint8_t *, size_t, const uint8_t *, size_t, uint8_t *, size_t, uint8_t *, size_t);
 uint64_t second_reaction(const uint8_t *, size_t, uint32_t, uint32_t, uint8_t *, size_t);
+uint64_t second_convert_table(const uint8_t *, size_t, uint8_t *, size_t, uint8_t *, size_t);
 #define krossvil_check_table second_check_table
 #define krossvil_check_journal second_check_journal
 #define krossvil_run second_run
 #define krossvil_reaction second_reaction
+#define krossvil_convert_table second_convert_table
 #else
 #include "krossvil.h"
 #endif
@@ -210,7 +212,16 @@ static uint32_t draw_set(unsigned count)
     }
 }
 
-static void draw_plan(struct plan *plan)
+/* The set and a member that is not below the count, if there can be one. */
+static uint32_t beyond(uint32_t set, unsigned count)
+{
+    if (count < 32)
+        set |= (uint32_t)1 << (percent(50) ? count : percent(50) ? 31 : between(count, 31));
+    return set;
+}
+
+/* In an `old` one a state of hold 0 may delay inputs too. */
+static void draw_plan(struct plan *plan, bool old)
 {
     memset(plan, 0, sizeof *plan);
     plan->q = draw_count();
@@ -226,7 +237,8 @@ static void draw_plan(struct plan *plan)
         for (unsigned a = 0; a < plan->i; a++)
             plan->next[s][a] = percent(stay) ? s : percent(10) ? plan->q - 1 : below(span);
         plan->hold[s] = draw_hold(plan->bound);
-        plan->delayed[s] = dense && percent(70) ? low_bits(plan->i) : draw_set(plan->i);
+        if (plan->hold[s] > 0 || old)
+            plan->delayed[s] = dense && percent(70) ? low_bits(plan->i) : draw_set(plan->i);
     }
 }
 
@@ -236,7 +248,7 @@ static void damage_plan(struct plan *plan)
     static const uint32_t holds[] = { 3600001, 3600002, 0x00FFFFFF, 0x80000000u, 0xFFFFFFFFu, 0x0136EE80u };
     static const uint32_t bounds[] = { 0, 60001, 65536, 0x01000001u, 0xFFFFFFFFu };
     unsigned s = below(plan->q), a = below(plan->i);
-    switch (below(9)) {
+    switch (below(10)) {
     case 0: plan->q = percent(40) ? 0 : percent(70) ? 33 : between(33, 255); break;
     case 1: plan->i = percent(40) ? 0 : percent(70) ? 33 : between(33, 255); break;
     case 2: plan->o = percent(40) ? 0 : percent(70) ? 33 : between(33, 255); break;
@@ -245,9 +257,12 @@ static void damage_plan(struct plan *plan)
     case 5: plan->output[s] = percent(70) ? plan->o : 255; break;
     case 6: plan->next[s][a] = percent(70) ? plan->q : 255; break;
     case 7: plan->hold[s] = holds[below(6)]; break;
-    case 8:
-        if (plan->i < 32)
-            plan->delayed[s] |= (uint32_t)1 << (percent(40) ? plan->i : percent(50) ? 31 : between(plan->i, 31));
+    case 8: plan->delayed[s] = beyond(plan->delayed[s], plan->i); break;
+    case 9: /* inputs delayed with no hold, some of them unknown: 11, or 7 before it */
+        plan->hold[s] = 0;
+        plan->delayed[s] |= (uint32_t)1 << a;
+        if (percent(30))
+            plan->delayed[s] = beyond(plan->delayed[s], plan->i);
         break;
     }
 }
@@ -284,10 +299,10 @@ static void write_table(const struct plan *plan, unsigned q, unsigned i, struct 
         add4(bytes, plan->delayed[s]);
 }
 
-static void draw_table(struct plan *plan, struct bytes *bytes, bool damaged)
+static void draw_table(struct plan *plan, struct bytes *bytes, bool old, bool damaged)
 {
     size_t starts[6];
-    draw_plan(plan);
+    draw_plan(plan, old);
     struct plan written = *plan;
     if (damaged && percent(60)) {
         damage_plan(&written); /* a second time only while the counts stand: it draws within them */
@@ -537,16 +552,16 @@ static void damage_pieces(const struct plan *plan)
 
 /* ---- one case ---- */
 
-enum entry { CHECK_TABLE, CHECK_JOURNAL, RUN, REACTION, ENTRIES };
+enum entry { CHECK_TABLE, CHECK_JOURNAL, RUN, REACTION, CONVERT_TABLE, ENTRIES };
 
-static const char *const entry_names[ENTRIES] = { "check_table", "check_journal", "run", "reaction" };
-static const size_t answer_sizes[ENTRIES] = { 0, 28, 4, 8 };
+static const char *const entry_names[ENTRIES] = { "check_table", "check_journal", "run", "reaction", "convert_table" };
+static const size_t answer_sizes[ENTRIES] = { 0, 28, 4, 8, 4 };
 
 struct call {
     enum entry entry;
     const struct bytes *table, *input; /* input: journal or stimulus */
     uint32_t states, inputs;
-    size_t journal_len, answer_len;
+    size_t output_len, answer_len; /* output: journal or new table */
 };
 
 enum { GUARD = 64 };
@@ -560,7 +575,7 @@ struct lent {
 struct side {
     uint64_t returned;
     bool inputs_kept;
-    struct lent journal, answer;
+    struct lent output, answer;
 };
 
 static struct side reference_side, library_side;
@@ -605,8 +620,8 @@ static void call_side(const struct call *call, bool library, struct side *side)
 {
     uint8_t *table = copied(call->table), *input = copied(call->input);
     size_t table_len = call->table->len, input_len = call->input->len;
-    uint8_t *journal = side->journal.at + side->journal.before, *answer = side->answer.at + side->answer.before;
-    size_t journal_len = call->journal_len, answer_len = call->answer_len;
+    uint8_t *output = side->output.at + side->output.before, *answer = side->answer.at + side->answer.before;
+    size_t output_len = call->output_len, answer_len = call->answer_len;
     switch (call->entry) {
     case CHECK_TABLE:
         side->returned = (library ? krossvil_check_table : reference_check_table)(table, table_len);
@@ -616,12 +631,16 @@ static void call_side(const struct call *call, bool library, struct side *side)
                                                                                       input_len, answer, answer_len);
         break;
     case RUN:
-        side->returned = (library ? krossvil_run : reference_run)(table, table_len, input, input_len, journal,
-                                                                  journal_len, answer, answer_len);
+        side->returned = (library ? krossvil_run : reference_run)(table, table_len, input, input_len, output,
+                                                                  output_len, answer, answer_len);
         break;
-    default:
+    case REACTION:
         side->returned = (library ? krossvil_reaction : reference_reaction)(table, table_len, call->states,
                                                                             call->inputs, answer, answer_len);
+        break;
+    default:
+        side->returned = (library ? krossvil_convert_table : reference_convert_table)(table, table_len, output,
+                                                                                      output_len, answer, answer_len);
         break;
     }
     side->inputs_kept = (table_len == 0 || memcmp(table, call->table->at, table_len) == 0) &&
@@ -636,7 +655,20 @@ static uint32_t answer_number(const struct lent *answer, size_t k)
     return (uint32_t)at[0] << 24 | (uint32_t)at[1] << 16 | (uint32_t)at[2] << 8 | at[3];
 }
 
-/* What must hold of one side by itself: a refusal changes nothing, a success nothing past the answer. */
+/* How many bytes of its output buffer a side has to fill. */
+static size_t output_size(const struct call *call, const struct side *side)
+{
+    if (side->returned != 0)
+        return 0;
+    switch (call->entry) {
+    case RUN: return answer_number(&side->answer, 0);
+    case CONVERT_TABLE: return call->table->len;
+    default: return 0;
+    }
+}
+
+/* What must hold of one side by itself: a refusal changes nothing, a success nothing past the answer and the output, and
+ * a new table passes. */
 static const char *broken(const struct call *call, const struct side *side)
 {
     bool success = side->returned == 0;
@@ -647,11 +679,14 @@ static const char *broken(const struct call *call, const struct side *side)
         return "success with an answer buffer too short";
     if (touched(&side->answer, answer_size) != SIZE_MAX)
         return "the answer buffer or its guard has changed where it may not";
-    size_t written = success && call->entry == RUN ? answer_number(&side->answer, 0) : 0;
-    if (written > call->journal_len)
-        return "success with a journal buffer too short";
-    if (touched(&side->journal, written) != SIZE_MAX)
-        return "the journal buffer or its guard has changed where it may not";
+    size_t written = output_size(call, side);
+    if (written > call->output_len)
+        return "success with an output buffer too short";
+    if (touched(&side->output, written) != SIZE_MAX)
+        return "the output buffer or its guard has changed where it may not";
+    if (success && call->entry == CONVERT_TABLE &&
+        reference_check_table(side->output.at + side->output.before, written) != 0)
+        return "the new table does not pass";
     return NULL;
 }
 
@@ -694,17 +729,17 @@ static void print_case(const char *label, const struct call *call, const char *r
     print_returned("reference", reference_side.returned);
     print_returned("library", library_side.returned);
     print_lent("answer", &reference_side.answer, &library_side.answer);
-    print_lent("journal", &reference_side.journal, &library_side.journal);
+    print_lent("output", &reference_side.output, &library_side.output);
     print_bytes("table", call->table->at, call->table->len);
     if (call->entry == CHECK_JOURNAL || call->entry == RUN)
         print_bytes(call->entry == RUN ? "stimulus" : "journal", call->input->at, call->input->len);
     if (call->entry == REACTION)
         printf("  states %08" PRIX32 ", inputs %08" PRIX32 "\n", call->states, call->inputs);
-    if (call->entry == RUN) {
-        printf("  journal buffer of %zu bytes\n", call->journal_len);
+    if (call->entry == RUN || call->entry == CONVERT_TABLE) {
+        printf("  output buffer of %zu bytes\n", call->output_len);
         if (reference_side.returned == 0)
-            print_bytes("reference's journal", reference_side.journal.at + reference_side.journal.before,
-                        answer_number(&reference_side.answer, 0));
+            print_bytes("reference's output", reference_side.output.at + reference_side.output.before,
+                        output_size(call, &reference_side));
     }
     if (call->entry != CHECK_TABLE) {
         print_bytes("reference's answer buffer", reference_side.answer.at + reference_side.answer.before,
@@ -718,8 +753,8 @@ static void compare(const char *label, const struct call *call, const uint64_t *
 {
     size_t before = GUARD - below(8);
     uint8_t salt = (uint8_t)below(256);
-    lend(&reference_side.journal, call->journal_len, before, salt);
-    lend(&library_side.journal, call->journal_len, before, salt);
+    lend(&reference_side.output, call->output_len, before, salt);
+    lend(&library_side.output, call->output_len, before, salt);
     lend(&reference_side.answer, call->answer_len, before, salt);
     lend(&library_side.answer, call->answer_len, before, salt);
     call_side(call, false, &reference_side);
@@ -730,8 +765,8 @@ static void compare(const char *label, const struct call *call, const uint64_t *
         reason = "the values returned differ";
     else if (differs_at(&reference_side.answer, &library_side.answer) != SIZE_MAX)
         reason = "the answer buffers differ";
-    else if (differs_at(&reference_side.journal, &library_side.journal) != SIZE_MAX)
-        reason = "the journal buffers differ";
+    else if (differs_at(&reference_side.output, &library_side.output) != SIZE_MAX)
+        reason = "the output buffers differ";
     if (reason == NULL)
         reason = broken(call, &reference_side);
     if (reason == NULL)
@@ -779,13 +814,6 @@ static uint32_t draw_states(const struct plan *plan, uint32_t inputs)
     return states;
 }
 
-static uint32_t beyond(uint32_t set, unsigned count)
-{
-    if (count < 32)
-        set |= (uint32_t)1 << (percent(50) ? count : percent(50) ? 31 : between(count, 31));
-    return set;
-}
-
 static size_t draw_answer_len(size_t exact)
 {
     if (exact > 0 && percent(8))
@@ -793,10 +821,10 @@ static size_t draw_answer_len(size_t exact)
     return percent(50) ? exact : exact + between(1, 40);
 }
 
-static size_t draw_journal_len(size_t exact)
+static size_t draw_output_len(size_t exact)
 {
     if (exact > 0 && percent(18))
-        return percent(50) ? exact - 1 : below((uint32_t)exact);
+        return percent(50) ? exact - 1 : percent(80) ? below((uint32_t)exact) : 0;
     return percent(40) ? exact : percent(95) ? exact + between(1, 100) : JOURNAL_LIMIT + below(100);
 }
 
@@ -859,8 +887,13 @@ static void random_case(uint64_t seed, uint64_t number)
     seed_case(seed, number);
     snprintf(label, sizeof label, "case %" PRIu64 " of seed %" PRIu64, number, seed);
     lot = below(100);
-    call.entry = lot < 20 ? CHECK_TABLE : lot < 50 ? CHECK_JOURNAL : lot < 80 ? RUN : REACTION;
-    draw_table(&plan, &table, percent(call.entry == CHECK_TABLE ? 65 : 8));
+    call.entry = lot < 18   ? CHECK_TABLE
+                 : lot < 46 ? CHECK_JOURNAL
+                 : lot < 74 ? RUN
+                 : lot < 90 ? REACTION
+                            : CONVERT_TABLE;
+    bool old = percent(call.entry == CONVERT_TABLE ? 70 : 3);
+    draw_table(&plan, &table, old, percent(call.entry == CHECK_TABLE ? 65 : call.entry == CONVERT_TABLE ? 35 : 8));
     input.len = 0;
     if (call.entry == CHECK_JOURNAL || call.entry == RUN)
         draw_input(&plan, call.entry);
@@ -879,8 +912,10 @@ static void random_case(uint64_t seed, uint64_t number)
         size_t exact = below(300);
         if (reference_run(table.at, table.len, input.at, input.len, scratch.at, ROOM, length, 4) == 0)
             exact = (size_t)length[1] << 16 | (size_t)length[2] << 8 | length[3];
-        call.journal_len = draw_journal_len(exact);
+        call.output_len = draw_output_len(exact);
     }
+    if (call.entry == CONVERT_TABLE)
+        call.output_len = draw_output_len(table.len);
     call.answer_len = call.entry == CHECK_TABLE ? 0 : draw_answer_len(answer_sizes[call.entry]);
     compare(label, &call, NULL);
 }
@@ -914,6 +949,16 @@ static void read_pieces(const char *text)
             piece.value = (uint32_t)strtoul(end + 1, &end, 10);
         pieces[piece_count++] = piece;
         text = *end == ' ' ? end + 1 : end;
+    }
+}
+
+static void expect(bool right, const char *otherwise)
+{
+    if (right) {
+        passed++;
+    } else {
+        printf("%s\n", otherwise);
+        mismatches++;
     }
 }
 
@@ -963,18 +1008,13 @@ static void paper_cases(void)
             struct bytes *journal = &scratch;
             memcpy(journal, &input, sizeof input);
             call.entry = RUN;
-            call.journal_len = 200;
+            call.output_len = 200;
             write_pieces(0x20, &input);
             compare("paper's stimulus", &call, (const uint64_t[]){ 0, length });
             bool same = table.len == 48 && length == 123 && input.len == 111 &&
-                        memcmp(library_side.journal.at + library_side.journal.before, journal->at, length) == 0;
-            if (same) {
-                passed++;
-            } else {
-                printf("the paper's run: the runtime's journal or a length differs\n");
-                mismatches++;
-            }
-            call.journal_len = 0;
+                        memcmp(library_side.output.at + library_side.output.before, journal->at, length) == 0;
+            expect(same, "the paper's run: the runtime's journal or a length differs");
+            call.output_len = 0;
         }
     }
     call.entry = REACTION;
@@ -987,16 +1027,39 @@ static void paper_cases(void)
     }
 }
 
+/* The classroom's table as it may have been before 11: in state 0, which has no hold, input 1 is delayed. */
+static void old_table_case(void)
+{
+    struct plan plan = classroom();
+    struct bytes *new_table = &scratch;
+    struct call call = { .table = &table, .input = &input, .output_len = 48, .answer_len = 4 };
+    size_t starts[6];
+
+    write_table(&plan, 2, 2, new_table, starts);
+    plan.delayed[0] = 2;
+    write_table(&plan, 2, 2, &table, starts);
+    input.len = 0;
+    call.entry = CHECK_TABLE;
+    compare("old table", &call, (const uint64_t[]){ REFUSED(11, 40) });
+    call.entry = CONVERT_TABLE;
+    compare("old table converted", &call, (const uint64_t[]){ 0, 1 });
+    expect(memcmp(library_side.output.at + library_side.output.before, new_table->at, 48) == 0,
+           "old table converted: it is not the classroom's");
+}
+
 /* ---- the whole ---- */
 
 static bool can_give(enum entry entry, unsigned number)
 {
     if (number <= 8)
         return true; /* success and the table's */
+    if (number == 11)
+        return entry != CONVERT_TABLE; /* it reads by the old rules */
     switch (entry) {
     case CHECK_JOURNAL: return (number >= 19 && number <= 28) || number == 30;
     case RUN: return (number >= 19 && number <= 27) || number == 30; /* 29 can't come within the stimulus's length */
     case REACTION: return number == 9 || number == 10 || number == 30;
+    case CONVERT_TABLE: return number == 30;
     default: return false;
     }
 }
@@ -1051,6 +1114,7 @@ int main(int argc, char **argv)
         return 2;
     }
     paper_cases();
+    old_table_case();
     uint64_t asserted = passed, wrong = mismatches;
     for (uint64_t number = 0; number < cases; number++)
         random_case(seed, number);

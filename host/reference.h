@@ -1,4 +1,4 @@
-/* A second implementation of the four entries in plain C, written from the rules alone. The library is
+/* A second implementation of the five entries in plain C, written from the rules alone. The library is
  * held against it. Each entry returns 0, or refusal number * 2^32 + place; on success the answer's numbers stand at
  * the start of `answer`, four bytes each, most significant byte first.
  *
@@ -6,6 +6,7 @@
  *   check_journal  T, ticks, moves, last state, its output, the most ticks left at a test, the longest cycle
  *   run            the journal's length
  *   reaction       reaction time, target
+ *   convert_table  how many states have changed
  *
  * With SECOND defined the same entries get the prefix second_, so that two builds can be linked into one program. */
 #ifndef REFERENCE_H
@@ -19,6 +20,7 @@
 #define reference_check_journal second_check_journal
 #define reference_run second_run
 #define reference_reaction second_reaction
+#define reference_convert_table second_convert_table
 #endif
 
 uint64_t reference_check_table(const uint8_t *table, size_t table_len);
@@ -31,5 +33,8 @@ uint64_t reference_run(const uint8_t *table, size_t table_len, const uint8_t *st
 
 uint64_t reference_reaction(const uint8_t *table, size_t table_len, uint32_t states, uint32_t inputs,
                             uint8_t *answer, size_t answer_len);
+
+uint64_t reference_convert_table(const uint8_t *table, size_t table_len, uint8_t *new_table, size_t new_table_len,
+                                 uint8_t *answer, size_t answer_len);
 
 #endif

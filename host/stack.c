@@ -11,7 +11,8 @@ enum { ROOM = 1 << 20, PAINT = 0xA5 };
 /* One state and one input, E is 60,000, no hold. */
 static const uint8_t table[] = { 1, 0, 4, 1, 1, 1, 0, 2, 0, 4, 0, 0, 0xEA, 0x60, 3, 0, 1, 0,
                                  4, 0, 1, 0, 5, 0, 4, 0, 0, 0, 0, 6, 0, 4, 0, 0, 0, 0 };
-static uint8_t stimulus[KROSSVIL_STIMULUS_MAX], journal[KROSSVIL_JOURNAL_MAX], answer[KROSSVIL_JOURNAL_ANSWER];
+static uint8_t stimulus[KROSSVIL_STIMULUS_MAX], journal[KROSSVIL_JOURNAL_MAX], new_table[sizeof table];
+static uint8_t answer[KROSSVIL_JOURNAL_ANSWER];
 static size_t stimulus_len, journal_len;
 static _Alignas(16) uint8_t stack[ROOM];
 static ucontext_t here, there;
@@ -53,6 +54,11 @@ static void reaction(void)
     code = krossvil_reaction(table, sizeof table, 1, 1, answer, sizeof answer);
 }
 
+static void convert_table(void)
+{
+    code = krossvil_convert_table(table, sizeof table, new_table, sizeof new_table, answer, sizeof answer);
+}
+
 static void call_on_own_stack(void (*call)(void))
 {
     memset(stack, PAINT, sizeof stack);
@@ -88,6 +94,7 @@ int main(void)
     passed += measure("check_journal", check_journal, KROSSVIL_STACK);
     passed += measure("check_table", check_table, KROSSVIL_STACK);
     passed += measure("reaction", reaction, KROSSVIL_STACK);
-    printf("%d passed, %d failed\n", passed, 6 - passed);
-    return passed != 6;
+    passed += measure("convert_table", convert_table, KROSSVIL_STACK);
+    printf("%d passed, %d failed\n", passed, 7 - passed);
+    return passed != 7;
 }

@@ -82,6 +82,7 @@ fi
 same 'the built-in run has the classroom table' crates/checkjournal/data/table.bin examples/classroom/table.bin
 same 'the built-in run has the classroom journal' crates/checkjournal/data/journal.bin examples/classroom/journal.bin
 same 'the changed verdict has the classroom table' examples/changed-verdict/table.bin examples/classroom/table.bin
+same 'the old table was converted to the classroom table' examples/idle-sets/table.bin examples/classroom/table.bin
 
 # ---- The runs of the classroom table
 
@@ -95,6 +96,10 @@ prints 'the test at 8 with verdict 1' 'refused 28 at 76'
 fresh
 { put 10000100; end 0; } >journal.bin
 prints 'opening field and end at 0' 'accepted end=0 cycles=0 moves=0 state=0 output=0 left=0 longest=0'
+
+fresh
+cp "$root/examples/idle-sets/old-table.bin" table.bin
+prints 'an old table: state 0 has no hold and delays input 1' 'refused 11 at 40'
 
 # ---- Files that are missing, empty or no files
 

@@ -1,6 +1,6 @@
 #!/usr/bin/env bash
 # Holds the library against the reference in C (host/differential.c), then shows that the same test catches each of the
-# reference's faults. Runs the example host, and measures how much stack the functions need. Builds only under target/.
+# reference's faults. Runs the example hosts, and measures how much stack the functions need. Builds only under target/.
 # The last line is `N passed, M failed`.
 #
 #   host/test-differential.sh [--self] [CASES [SEED]]
@@ -93,18 +93,45 @@ if [ "$native" = yes ]; then
     try sanitized "$sanitized_cases" "$((seed + 1))"
 fi
 
-if [ "$self" = no ]; then
-    echo "== the example host"
-    compile examples/host.c "$library" "${link[@]}" -o "$out/example" || stop "did not build"
-    if "${run[@]}" "$out/example" examples/classroom/table.bin examples/classroom/stimulus.bin >"$out/example.log" &&
-        diff examples/classroom/host.txt "$out/example.log"; then
-        cat "$out/example.log"
+# What the example hosts call: the library, or with --self the second reference by the library's names.
+called=("$library")
+if [ "$self" = yes ]; then
+    called=("$out/differential-second.o")
+    for entry in check_table check_journal run reaction convert_table; do
+        called+=("-Dkrossvil_$entry=second_$entry")
+    done
+fi
+
+echo "== the example host"
+compile examples/host.c "${called[@]}" "${link[@]}" -o "$out/example" || stop "did not build"
+if "${run[@]}" "$out/example" examples/classroom/table.bin examples/classroom/stimulus.bin >"$out/example.log" &&
+    diff examples/classroom/host.txt "$out/example.log"; then
+    cat "$out/example.log"
+    passed=$((passed + 1))
+else
+    echo "the example host printed something else than examples/classroom/host.txt"
+    failed=$((failed + 1))
+fi
+
+echo "== the example converter"
+compile examples/convert.c "${called[@]}" "${link[@]}" -o "$out/convert" || stop "did not build"
+converts() { # TABLE LINE NEW: converted in its place, it gives the line and the bytes of NEW
+    local printed
+    cp "$1" "$out/table.bin"
+    printed=$("${run[@]}" "$out/convert" "$out/table.bin" "$out/table.bin")
+    if [ "$printed" = "$2" ] && cmp "$out/table.bin" "$3"; then
+        echo "$1: $printed"
         passed=$((passed + 1))
     else
-        echo "the example host printed something else than examples/classroom/host.txt"
+        echo "$1: '$printed', and not '$2' with the bytes of $3"
         failed=$((failed + 1))
     fi
+}
+converts examples/idle-sets/old-table.bin 'changed=1' examples/idle-sets/table.bin
+converts examples/idle-sets/table.bin 'changed=0' examples/idle-sets/table.bin
+converts examples/classroom/journal.bin 'refused 2 at 0' examples/classroom/journal.bin
 
+if [ "$self" = no ]; then
     echo "== the stack that the functions need"
     compile -D_DEFAULT_SOURCE host/stack.c "$library" "${link[@]}" -o "$out/stack" || stop "did not build"
     try stack 0 0

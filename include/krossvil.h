@@ -1,5 +1,6 @@
 /*
- * krossvil: a table check, a journal check, a runtime and a reaction calculator for polling controllers, for a host program in C.
+ * krossvil: a table check, a journal check, a runtime, a reaction calculator and a converter of old tables for polling controllers,
+ * for a host program in C.
  *
  * Link with libkrossvil.a (x86-64). The functions keep no state, allocate nothing, call only memcpy and memset, and never stop the program:
  * each ends with an answer on any bytes. How much stack they need is below; that is measured, not proved.
@@ -23,7 +24,7 @@
  *     03  Q    output of each state, below O
  *     04  Q*I  next state, rows by state, each below Q
  *     05  4*Q  hold of each state, 0..3,600,000
- *     06  4*Q  delayed inputs of each state: input i is 2^i
+ *     06  4*Q  delayed inputs of each state: input i is 2^i; none where the hold is 0
  *
  *   Journal, at most 65,536 bytes: field 10 first, field 1F last, the others between in any number. A time is four bytes,
  *   0..2,000,000,000, and stands first in its value.
@@ -47,6 +48,7 @@
  *      8  bytes after field 06                                    first of them
  *      9  calculator: a set names a member that does not exist    0 states, 1 inputs
  *     10  calculator: some next(p, a) is outside the states       smallest p*I + a
+ *     11  delayed set not empty on a state whose hold is 0        first such entry
  *     19  journal or stimulus too long                            0
  *     20  bytes run out before the end field is complete          start of the field
  *     21  unknown tag, or wrong length for the tag                start of the field
@@ -61,10 +63,13 @@
  *         machine's                                               start of the field
  *     29  runtime: journal would pass 65,536 bytes                0
  *     30  runtime: buffer shorter than the journal;
+ *         converter: buffer shorter than the table;
  *         any function with an answer: it is too short            0
  *
- * The table's refusals, 1 to 8, come before all others. Then, of a journal or a stimulus, 19, and field by field 20 to 28; of the
- * calculator's sets, 9 for the states, 9 for the inputs, 10. Then 29, then 30. The table check has no answer, and gives 1 to 8 only.
+ * The table's refusals, 1 to 8 and 11, come before all others: field by field, and in field 06 entry by entry, each for 7 and then
+ * for 11; 8 is the last of them. Then, of a journal or a stimulus, 19, and field by field 20 to 28; of the calculator's sets, 9 for
+ * the states, 9 for the inputs, 10. Then 29, then 30. The table check has no answer, and gives 1 to 8 and 11 only. The converter
+ * does not give 11.
  */
 #ifndef KROSSVIL_H
 #define KROSSVIL_H
@@ -85,6 +90,7 @@ extern "C" {
 #define KROSSVIL_JOURNAL_ANSWER 28u /* bytes of answer on success: T, ticks, moves, last state, its output, left, longest */
 #define KROSSVIL_RUN_ANSWER 4u      /* the journal's length in bytes */
 #define KROSSVIL_REACTION_ANSWER 8u /* reaction time, target set */
+#define KROSSVIL_CONVERT_ANSWER 4u  /* how many states have changed */
 
 /* Does the table pass? There are no further numbers. */
 uint64_t krossvil_check_table(const uint8_t *table, size_t table_len);
@@ -104,6 +110,12 @@ uint64_t krossvil_run(const uint8_t *table, size_t table_len, const uint8_t *sti
  * member i; empty sets are allowed. Answer, 8 bytes: the reaction time in units of the table's times, the target set. */
 uint64_t krossvil_reaction(const uint8_t *table, size_t table_len, uint32_t states, uint32_t inputs,
                            uint8_t *answer, size_t answer_len);
+
+/* For a table that was made before there was 11. Write it at the start of `new_table`, with the delayed set emptied at each state
+ * whose hold is 0, where it never had an effect: the new table has as many bytes, passes, and behaves the same in every journal and
+ * every reaction time. The bytes past it are unchanged. Answer, 4 bytes: how many states had a set that was not empty and is now. */
+uint64_t krossvil_convert_table(const uint8_t *table, size_t table_len, uint8_t *new_table, size_t new_table_len,
+                                uint8_t *answer, size_t answer_len);
 
 static inline uint32_t krossvil_number(uint64_t code) { return (uint32_t)(code >> 32); }
 

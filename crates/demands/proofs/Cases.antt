@@ -7,8 +7,8 @@ use Rattle.table.specs.Answer.{_or-else_, _and-then_}
 use Rattle.table.specs.Entries.{entriesFrom, values}
 use Rattle.table.specs.Encode as tables
 use Rattle.table.specs.Encode.{words}
-use Rattle.table.specs.Check.{named, fieldAnswer, rowAnswer, below, countsAnswer, boundAnswer, holdsAnswer, entriesAnswer}
-use Rattle.table.specs.Check.{tableAnswer, tableOf}
+use Rattle.table.specs.Check.{named, fieldAnswer, rowAnswer, below, setAnswer, countsAnswer, boundAnswer, holdsAnswer, entriesAnswer}
+use Rattle.table.specs.Check.{answerBy, tableOf}
 use Rattle.table.specs.Under.{underTable}
 use Rattle.records.specs.Reading.{lengthFits, knownIn, knownWith, openingIn, openingWith, recordOf, ranged, recordIn, recordAt, itemsFrom, itemsOf}
 use Rattle.records.specs.Encode.{bytesOf, bytesFrom, encode}
@@ -25,8 +25,8 @@ use Rattle.runtime.specs.Run.{madeOf, runOf, bufferOf}
 use Rattle.demands.specs.Cases.{CasesHold, Sizes}
 
 pub cases-hold : CasesHold
-unfolding field fieldAt some setOf largest _or-else_ _and-then_ entriesFrom values tables.encode words named fieldAnswer rowAnswer below
-    countsAnswer boundAnswer holdsAnswer entriesAnswer tableAnswer tableOf underTable lengthFits knownIn knownWith openingIn openingWith recordOf
+unfolding field fieldAt some setOf largest _or-else_ _and-then_ entriesFrom values tables.encode words named fieldAnswer rowAnswer below setAnswer
+    countsAnswer boundAnswer holdsAnswer entriesAnswer answerBy tableOf underTable lengthFits knownIn knownWith openingIn openingWith recordOf
     ranged recordIn recordAt itemsFrom itemsOf bytesOf bytesFrom encode ruleBy verdict left stateAfter lastChange gate step ticksOf movesOf most filled walk
     recordsRun opened runOver journal.answerOf checkOf nextSet weightOf reactionTime firstFrom firstLeaving reactionOf reactOf madeOf runOf runtime.answerOf
     bufferOf

@@ -1,12 +1,14 @@
 -- What specs/Contracts states of the entries.
 use mathlib.Core.Path.{_≡_, refl, sym, ap, _∙_}
-use mathlib.Core.List.{List, [], _∷_}
+use mathlib.Core.List.{List, [], _∷_, _++_}
 use mathlib.Core.Bool.{Bool, true, false}
 use Prim.Native.Nat.{ℕ, _*_}
 use borrow.Author.Tests.{ne-eqb}
 use denote.Ref.{now}
-use lib.ListN.{length}
+use lib.ListN.{length, drop}
 use Rattle.wire.specs.Choice.{_<?_, _=?_, if_then_else_}
+use Rattle.wire.specs.Made as Made′
+use Rattle.wire.specs.Made.{Made, answerIn, bufferIn}
 use Rattle.wire.specs.Reply.{Reply, gives, refuses, numberIn, valuesIn}
 use Rattle.table.specs.declared.Answer as table′
 use Rattle.table.proofs.Answers.{decided}
@@ -15,7 +17,13 @@ use Rattle.runtime.specs.declared.Answer as runtime′
 use Rattle.runtime.specs.declared.Answer.the-variants as made
 use Rattle.runtime.specs.Answer as run-answer
 use Rattle.runtime.specs.Run.{runOf, answerOf, bufferOf}
-use Rattle.krossvil.specs.Host.{told, codeOf, numberBytes, answerAfter, journalTold, runTold, bufferAfter, reactionTold}
+use Rattle.convert.specs.declared.Answer as convert′
+use Rattle.convert.specs.declared.Answer.the-variants as done
+use Rattle.convert.specs.Answer as convert-answer
+use Rattle.convert.specs.Convert.{madeOf}
+use Rattle.krossvil.proofs.Writers.{Gives}
+use Rattle.krossvil.proofs.Converts.{convert-gives}
+use Rattle.krossvil.specs.Host.{told, codeOf, numberBytes, answerAfter, journalTold, bufferAfter, reactionTold}
 use Rattle.laws.proofs.Never28.{never-differs}
 use Rattle.demands.proofs.Numbered.{table-numbered, refusal-numbered}
 use Rattle.demands.specs.Contracts.{EveryEntryDetermines, EveryRefusalKeeps, RunNeverDiffers}
@@ -60,6 +68,31 @@ unfolding bufferAfter
 buffer-kept (gives values) h written buffer other = absurd (other refl)
 buffer-kept (refuses number place) h written buffer other = rw h refl
 
+-- A buffer that is written to, and the answer buffer.
+both-kept : (reply : Reply) → Numbered reply → (written buffer answer : List ℕ) →
+    (later : List ℕ) → later ≡ bufferAfter (told reply (length answer)) written buffer → (after : List ℕ) → after ≡ answerAfter (told reply (length answer)) answer →
+    (codeOf (told reply (length answer)) ≡ 0 → ⊥) → _≡_ {A = List (List ℕ)} (later ∷ after ∷ []) (buffer ∷ answer ∷ [])
+both-kept reply h written buffer answer later l after a other =
+    rw (l ∙ buffer-kept (told reply (length answer)) (told-numbered reply (length answer) h) written buffer other, a ∙ answer-kept (told reply (length answer)) answer other) refl
+
+-- What was made goes into the buffer only with an answer that gives numbers.
+made-kept : {A : Type 0} (replyOf : A → Reply) (short : A) (k : ℕ) (m : Made A) → Gives replyOf k m → (buffer : List ℕ) →
+    (numberIn (replyOf (answerIn short m (length buffer))) ≡ 0 → ⊥) → bufferIn m buffer ≡ buffer
+unfolding answerIn bufferIn
+made-kept replyOf short k (Made′.refused a) g buffer other = refl
+made-kept replyOf short k (Made′.made a bytes) (values, few, gave) buffer other = go (length buffer <? length bytes) other
+  where
+    go : (b : Bool) → (numberIn (replyOf (if b then short else a)) ≡ 0 → ⊥) → (if b then buffer else bytes ++ drop (length bytes) buffer) ≡ buffer
+    go true h = refl
+    go false h = absurd (h (ap numberIn gave))
+
+-- ---- The converter
+
+convert-numbered : (a : convert′.Answer) → Numbered (convert-answer.replyOf a)
+convert-numbered (done.Converted changed) = tt
+convert-numbered (done.TableRefused answer) = table-fine answer
+convert-numbered done.BufferTooShort = refl
+
 -- ---- The entries
 
 -- Slices that are left as one another.
@@ -75,6 +108,7 @@ every-entry-determines = (
   record { asks-nothing = λ κs a. tt; one-outcome = λ κs a r r′ s s′ p p′. (p ∙ sym p′, refl) },
   record { asks-nothing = λ κs a. tt; one-outcome = λ κs a r r′ s s′ p p′. (p .0 ∙ sym (p′ .0), one (p .1 ∙ sym (p′ .1))) },
   record { asks-nothing = λ κs a. tt; one-outcome = λ κs a r r′ s s′ p p′. (p ∙ sym p′, refl) },
+  record { asks-nothing = λ κs a. tt; one-outcome = λ κs a r r′ s s′ p p′. (p .0 ∙ sym (p′ .0), one (p .1 ∙ sym (p′ .1))) },
   record { asks-nothing = λ κs a. tt; one-outcome = λ κs a r r′ s s′ p p′. (p ∙ sym p′, refl) },
   record { asks-nothing = λ κs a. tt; one-outcome = λ κs a r r′ s s′ p p′. (p .0 ∙ sym (p′ .0), one (p .1 ∙ sym (p′ .1))) },
   record {
@@ -82,6 +116,10 @@ every-entry-determines = (
     one-outcome = λ κs a r r′ s s′ p p′. (p .0 ∙ sym (p′ .0), two (p .1 .1 ∙ sym (p′ .1 .1)) (p .1 .0 ∙ sym (p′ .1 .0)));
   },
   record { asks-nothing = λ κs a. tt; one-outcome = λ κs a r r′ s s′ p p′. (p .0 ∙ sym (p′ .0), one (p .1 ∙ sym (p′ .1))) },
+  record {
+    asks-nothing = λ κs a. tt;
+    one-outcome = λ κs a r r′ s s′ p p′. (p .0 ∙ sym (p′ .0), two (p .1 .1 ∙ sym (p′ .1 .1)) (p .1 .0 ∙ sym (p′ .1 .0)));
+  },
 )
 
 pub every-refusal-keeps : EveryRefusalKeeps
@@ -90,18 +128,24 @@ every-refusal-keeps = (
   λ κs a r s p other.
       one (p .1 ∙ rw (ne-eqb _ 0 (λ e. other (ap (λ x. numberIn (run-answer.replyOf x)) (p .0) ∙ e))) refl),
   λ κs a r s p other.
+      one (p .1 ∙ made-kept convert-answer.replyOf done.BufferTooShort 1 (madeOf (now (a .0))) (convert-gives (now (a .0))) (now (a .1 .0))
+      (λ e. other (ap (λ x. numberIn (convert-answer.replyOf x)) (p .0) ∙ e))),
+  λ κs a r s p other.
       let answer = now (a .1 .1 .0) in
       one (p .1 ∙ answer-kept (journalTold (now (a .0)) (now (a .1 .0)) (length answer)) answer (λ e. other (p .0 ∙ e))),
   λ κs a r s p other.
       let buffer = now (a .1 .1 .0) in
-      let answer = now (a .1 .1 .1 .0) in
       let made-is = runOf (now (a .0)) (now (a .1 .0)) in
-      let reply = runTold (now (a .0)) (now (a .1 .0)) buffer (length answer) in
-      let numbered = told-numbered (run-answer.replyOf (answerOf made-is (length buffer))) (length answer) (run-numbered (answerOf made-is (length buffer))) in
-      two (p .1 .1 ∙ buffer-kept reply numbered (bufferOf made-is buffer) buffer (λ e. other (p .0 ∙ e))) (p .1 .0 ∙ answer-kept reply answer (λ e. other (p .0 ∙ e))),
+      both-kept (run-answer.replyOf (answerOf made-is (length buffer))) (run-numbered (answerOf made-is (length buffer)))
+      (bufferOf made-is buffer) buffer (now (a .1 .1 .1 .0)) _ (p .1 .1) _ (p .1 .0) (λ e. other (p .0 ∙ e)),
   λ κs a r s p other.
       let answer = now (a .1 .1 .1 .0) in
       one (p .1 ∙ answer-kept (reactionTold (now (a .0)) (a .1 .0) (a .1 .1 .0) (length answer)) answer (λ e. other (p .0 ∙ e))),
+  λ κs a r s p other.
+      let buffer = now (a .1 .0) in
+      let told-as = answerIn done.BufferTooShort (madeOf (now (a .0))) (length buffer) in
+      both-kept (convert-answer.replyOf told-as) (convert-numbered told-as)
+      (bufferIn (madeOf (now (a .0))) buffer) buffer (now (a .1 .1 .0)) _ (p .1 .1) _ (p .1 .0) (λ e. other (p .0 ∙ e)),
 )
 
 pub run-never-differs : RunNeverDiffers

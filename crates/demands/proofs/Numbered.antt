@@ -1,26 +1,16 @@
 -- No refusal has number 0.
-use mathlib.Core.Path.{_≡_, refl, sym}
+use mathlib.Core.Path.{_≡_, refl}
 use mathlib.Core.Bool.{false}
 use Rattle.wire.specs.Choice.{_=?_}
 use Rattle.wire.specs.Reply.{numberIn}
-use Rattle.wire.proofs.Choice.{never}
 use Rattle.table.specs.declared.Answer as table′
-use Rattle.table.specs.declared.Answer.the-variants as verdict
 use Rattle.table.specs.Answer.{passes?, replyOf}
 use Rattle.records.specs.declared.Refusal.{Refusal}
 use Rattle.records.specs.declared.Refusal.the-variants.{RunsOut, UnknownField, Misplaced, OutOfRange, TimeFalls, PastBound, WrongPhase, Unsettled, Differs}
 use Rattle.records.specs.Refusal.{numberOf}
 
 pub table-numbered : (a : table′.Answer) → passes? a ≡ false → (numberIn (replyOf a) =? 0) ≡ false
-table-numbered verdict.Passes r = absurd (never (sym r))
-table-numbered (verdict.RunsOut at) r = refl
-table-numbered (verdict.WrongTagOrLength at) r = refl
-table-numbered (verdict.CountOutOfRange at) r = refl
-table-numbered (verdict.BoundOutOfRange at) r = refl
-table-numbered (verdict.EntryOutOfRange at) r = refl
-table-numbered (verdict.HoldTooLong at) r = refl
-table-numbered (verdict.UnknownInputDelayed at) r = refl
-table-numbered (verdict.BytesAfter at) r = refl
+table-numbered a r = r
 
 pub refusal-numbered : (x : Refusal) → (numberOf x =? 0) ≡ false
 refusal-numbered RunsOut = refl

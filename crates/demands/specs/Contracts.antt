@@ -19,6 +19,9 @@ use Rattle.runtime.proofs.run.Kinds as run-kinds
 use Rattle.runtime.proofs.run.Reads as run
 use Rattle.reaction.proofs.react.Kinds as react-kinds
 use Rattle.reaction.proofs.react.Reads as react
+use Rattle.convert.specs.Answer as convert-answer
+use Rattle.convert.proofs.convert.Kinds as convert-kinds
+use Rattle.convert.proofs.convert.Reads as convert
 use Rattle.krossvil.proofs.krossvil_check_table.Kinds as c-table-kinds
 use Rattle.krossvil.proofs.krossvil_check_table.Reads as c-table
 use Rattle.krossvil.proofs.krossvil_check_journal.Kinds as c-journal-kinds
@@ -27,6 +30,8 @@ use Rattle.krossvil.proofs.krossvil_run.Kinds as c-run-kinds
 use Rattle.krossvil.proofs.krossvil_run.Reads as c-run
 use Rattle.krossvil.proofs.krossvil_reaction.Kinds as c-reaction-kinds
 use Rattle.krossvil.proofs.krossvil_reaction.Reads as c-reaction
+use Rattle.krossvil.proofs.krossvil_convert_table.Kinds as c-convert-kinds
+use Rattle.krossvil.proofs.krossvil_convert_table.Reads as c-convert
 
 -- A contract, and the bytes of the slices that are lent to be written, as they were and as they are left.
 pub record Contract : Type 1 where
@@ -64,6 +69,9 @@ runtimeRun = entry 3 run-kinds.ps run-kinds.r run.Pre run.Post (λ κs a. now (a
 abbrev pub reactionReact : Contract
 reactionReact = entry 1 react-kinds.ps react-kinds.r react.Pre react.Post (λ κs a. []) (λ κs s. [])
 
+abbrev pub converter : Contract
+converter = entry 2 convert-kinds.ps convert-kinds.r convert.Pre convert.Post (λ κs a. now (a .1 .0) ∷ []) (λ κs s. now (s .1 .0) ∷ [])
+
 abbrev pub tableInC : Contract
 tableInC = entry 1 c-table-kinds.ps c-table-kinds.r c-table.Pre c-table.Post (λ κs a. []) (λ κs s. [])
 
@@ -80,6 +88,11 @@ reactionInC =
     entry 2 c-reaction-kinds.ps c-reaction-kinds.r c-reaction.Pre c-reaction.Post
     (λ κs a. now (a .1 .1 .1 .0) ∷ []) (λ κs s. now (s .1 .1 .1 .0) ∷ [])
 
+abbrev pub converterInC : Contract
+converterInC =
+    entry 3 c-convert-kinds.ps c-convert-kinds.r c-convert.Pre c-convert.Post
+    (λ κs a. now (a .1 .0) ∷ now (a .1 .1 .0) ∷ []) (λ κs s. now (s .1 .0) ∷ now (s .1 .1 .0) ∷ [])
+
 -- ---- Every answer is determined
 
 -- The contract asks nothing and allows one outcome: the result, and every lent byte.
@@ -90,8 +103,8 @@ pub record Determines (C : Contract) : Type 0 where
 
 abbrev pub EveryEntryDetermines : Type 0
 EveryEntryDetermines =
-    Determines tableCheck × Determines journalCheck × Determines runtimeRun × Determines reactionReact
-    × Determines tableInC × Determines journalInC × Determines runInC × Determines reactionInC
+    Determines tableCheck × Determines journalCheck × Determines runtimeRun × Determines reactionReact × Determines converter
+    × Determines tableInC × Determines journalInC × Determines runInC × Determines reactionInC × Determines converterInC
 
 -- ---- A refusal changes no lent byte
 
@@ -101,8 +114,9 @@ RefusalKeeps C number = (κs : Lfts (C .lifetimes)) (a : C .Args κs) (r : C .Re
 
 abbrev pub EveryRefusalKeeps : Type 0
 EveryRefusalKeeps =
-    RefusalKeeps runtimeRun (λ κs r. numberIn (replyOf r))
+    RefusalKeeps runtimeRun (λ κs r. numberIn (replyOf r)) × RefusalKeeps converter (λ κs r. numberIn (convert-answer.replyOf r))
     × RefusalKeeps journalInC (λ κs r. r) × RefusalKeeps runInC (λ κs r. r) × RefusalKeeps reactionInC (λ κs r. r)
+    × RefusalKeeps converterInC (λ κs r. r)
 
 -- ---- The runtime never gives 28
 

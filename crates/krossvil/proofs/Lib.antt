@@ -3,3 +3,4 @@ pub mod Places
 pub mod Outcomes
 pub mod Writers
 pub mod Runs
+pub mod Converts

@@ -102,7 +102,7 @@ run-by F few t s = go (F .most <? length s) refl
 pub journal-fits : (table s : List ℕ) → Fits (journal′.replyOf (checkOf table s))
 unfolding checkOf answerOf
 journal-fits table s =
-    under-either checked.TableRefused (λ t. answerIn journal t s) table (λ a. Fits (journal′.replyOf a)) (λ e. under (tableIn table)) (table-fits table)
+    under-either checked.TableRefused (λ t. answerIn journal t s) table (λ a. Fits (journal′.replyOf a)) (λ e. under (tableIn table)) (table-fits false table)
   where
     answered : (t : Table) (r : Run) → RunBy r → Fits (journal′.replyOf (answerOf t r))
     answered t (ran input taken last) h = record { number = omega arith; place = omega arith }
@@ -136,7 +136,7 @@ run-refuses : (table s : List ℕ) → Refuses (runOf table s)
 unfolding runOf
 run-refuses table s =
     under-either (λ a. run.refused (made.TableRefused a)) (λ t. madeUnder t s) table Refuses (λ e. made-fits (tableIn table) s)
-    (table-fits table, rw (table-none (tableAnswer table)) (omega arith))
+    (table-fits false table, rw (table-none (tableAnswer table)) (omega arith))
 
 pub run-fits : (table s : List ℕ) (room : ℕ) (a : runtime′.Answer) → a ≡ run.answerOf (runOf table s) room → RunFits a
 unfolding run.answerOf
@@ -155,7 +155,7 @@ run-fits table s room a is = rw is (go (runOf table s) (run-refuses table s))
 pub reaction-fits : (table : List ℕ) (P A : ℕ) → Fits (reaction.replyOf (reactOf table P A))
 unfolding reactOf reactionOf
 reaction-fits table P A =
-    under-either TableRefused (λ t. reactionOf t P A) table (λ a. Fits (reaction.replyOf a)) (λ e. under (tableIn table) (well-formed table e)) (table-fits table)
+    under-either TableRefused (λ t. reactionOf t P A) table (λ a. Fits (reaction.replyOf a)) (λ e. under (tableIn table) (well-formed table e)) (table-fits false table)
   where
     under : (t : Table) → WellFormed t → Fits (reaction.replyOf (reactionOf t P A))
     under t good = go (not (P <? 2 ^ t .states)) (not (A <? 2 ^ t .inputs)) (firstLeaving t P A <? t .states * t .inputs) refl

@@ -1,37 +1,34 @@
 -- Refusal numbers are at most 30 and places are below 2^32, so that both fit into one number of 64 bits: the table's.
-use mathlib.Core.Path.{_≡_, refl}
+use mathlib.Core.Path.{_≡_, refl, sym}
 use mathlib.Core.List.{List, []}
 use mathlib.Core.Bool.{Bool, true, false, _&&_}
 use Prim.Native.Nat.{ℕ, zero, suc, _+_, _*_, _<_, _≤_}
 use native.Mathlib.Nat.{mul-le-mul}
 use native.Mathlib.Omega.{arith}
-use Rattle.wire.specs.Choice.{_=?_, if_then_else_}
+use Rattle.wire.specs.Choice.{_=?_}
 use Rattle.wire.specs.Field.{fieldAt}
-use Rattle.wire.specs.Reply.{numberIn, placeIn, valuesIn}
+use Rattle.wire.specs.Reply.{Reply, gives, refuses, numberIn, placeIn, valuesIn}
 use Rattle.wire.specs.declared.Field.{Field}
 use Rattle.wire.specs.declared.Field.the-variants.{Whole, RunOut}
+use Rattle.wire.proofs.Choice.{never}
 use Rattle.table.specs.declared.Answer.{Answer}
 use Rattle.table.specs.declared.Answer.the-variants as verdict
 use Rattle.table.specs.declared.Counts.{Counts}
 use Rattle.table.specs.Answer.{replyOf, _or-else_, _and-then_}
 use Rattle.table.specs.Entries.{entriesFrom}
-use Rattle.table.specs.Check.{named, fieldAnswer, rowAnswer, below, badWord, countsAnswer, boundAnswer, countsIn}
-use Rattle.table.specs.Check.{holdsAnswer, entriesAnswer, tableAnswer}
+use Rattle.table.specs.Check.{named, fieldAnswer, rowAnswer, below, setAnswer, countsAnswer, boundAnswer, countsIn}
+use Rattle.table.specs.Check.{holdsAnswer, entriesAnswer, answerBy}
 use Rattle.table.proofs.Answers.{decided}
 use Rattle.table.proofs.Stands.{counts-stand}
 use Rattle.krossvil.specs.Small.{Fits}
 
 -- The table's refusals have no numbers.
+refusal-none : (r : Reply) → (numberIn r =? 0) ≡ false → valuesIn r ≡ []
+refusal-none (gives values) e = absurd (never (sym e))
+refusal-none (refuses number place) e = refl
+
 pub table-none : (a : Answer) → valuesIn (replyOf a) ≡ []
-table-none verdict.Passes = refl
-table-none (verdict.RunsOut at) = refl
-table-none (verdict.WrongTagOrLength at) = refl
-table-none (verdict.CountOutOfRange at) = refl
-table-none (verdict.BoundOutOfRange at) = refl
-table-none (verdict.EntryOutOfRange at) = refl
-table-none (verdict.HoldTooLong at) = refl
-table-none (verdict.UnknownInputDelayed at) = refl
-table-none (verdict.BytesAfter at) = refl
+table-none a = decided a (λ e. rw e) (λ r other. refusal-none (replyOf a) r)
 
 -- A table has fewer than 2,000 bytes up to its last entry.
 record By (a : Answer) : Type 0 where
@@ -64,42 +61,41 @@ module _ (s : List ℕ) (at tag : ℕ) (low : at ≤ 2000) where
       go RunOut = record { number = omega arith; place = low }
       go (Whole found claimed) = by-test ((found =? tag) && (claimed =? size)) (verdict.WrongTagOrLength at) (record { number = omega arith; place = low })
 
-  by-row : (size n limit : ℕ) (entry : ℕ → ℕ) (called : ℕ → Answer) → ((k : ℕ) → k < n → By (called k)) →
-      By (rowAnswer s at tag size (below limit entry called) n)
-  unfolding rowAnswer below
-  by-row size n limit entry called all =
-      by-then (fieldAnswer s at tag size) _ (by-field size) (λ p. by-entries (below limit entry called) n 0 (λ k h. by-test _ (called k) (all k (omega arith))))
+  by-row : (size n : ℕ) (entry : ℕ → Answer) → ((k : ℕ) → k < n → By (entry k)) → By (rowAnswer s at tag size entry n)
+  unfolding rowAnswer
+  by-row size n entry all = by-then (fieldAnswer s at tag size) _ (by-field size) (λ p. by-entries entry n 0 (λ k h. all k (omega arith)))
 
-by-word : (tag place : ℕ) → place ≤ 2000 → By (badWord tag place)
-unfolding badWord
-by-word tag place low = go (tag =? 0x05)
-  where
-    go : (b : Bool) → By (if b then verdict.HoldTooLong place else verdict.UnknownInputDelayed place)
-    go true = record { number = omega arith; place = low }
-    go false = record { number = omega arith; place = low }
+by-below : (limit : ℕ) (entry : ℕ → ℕ) (called : ℕ → Answer) (k : ℕ) → By (called k) → By (below limit entry called k)
+unfolding below
+by-below limit entry called k by = by-test _ (called k) by
 
-by-all : (c : Counts) (s : List ℕ) → c .states ≤ 32 → c .inputs ≤ 32 → By (entriesAnswer c s)
+by-set : (old : Bool) (hold set limit place : ℕ) → place ≤ 2000 → By (setAnswer old hold set limit place)
+unfolding setAnswer
+by-set old hold set limit place low =
+    by-then _ _ (by-test _ _ (record { number = omega arith; place = low })) (λ p. by-test _ _ (record { number = omega arith; place = low }))
+
+by-all : (old : Bool) (c : Counts) (s : List ℕ) → c .states ≤ 32 → c .inputs ≤ 32 → By (entriesAnswer old c s)
 unfolding entriesAnswer holdsAnswer
-by-all c s few narrow =
+by-all old c s few narrow =
     let many : c .states * c .inputs ≤ 1024 = mul-le-mul few narrow in
-    by-then _ _ (by-row s _ _ (omega arith) _ _ _ _ _ (λ k h. record { number = omega arith; place = omega arith })) (λ p.
-    by-then _ _ (by-row s _ _ (omega arith) _ _ _ _ _ (λ k h. record { number = omega arith; place = omega arith })) (λ q.
-    by-then _ _ (by-row s _ _ (omega arith) _ _ _ _ _ (λ k h. by-word _ _ (omega arith))) (λ r.
-    by-then _ _ (by-row s _ _ (omega arith) _ _ _ _ _ (λ k h. by-word _ _ (omega arith))) (λ u.
+    by-then _ _ (by-row s _ _ (omega arith) _ _ _ (λ k h. by-below _ _ _ k (record { number = omega arith; place = omega arith }))) (λ p.
+    by-then _ _ (by-row s _ _ (omega arith) _ _ _ (λ k h. by-below _ _ _ k (record { number = omega arith; place = omega arith }))) (λ q.
+    by-then _ _ (by-row s _ _ (omega arith) _ _ _ (λ k h. by-below _ _ _ k (record { number = omega arith; place = omega arith }))) (λ r.
+    by-then _ _ (by-row s _ _ (omega arith) _ _ _ (λ k h. by-set _ _ _ _ _ (omega arith))) (λ u.
     by-test _ _ (record { number = omega arith; place = omega arith })))))
 
-by-table : (s : List ℕ) → By (tableAnswer s)
-unfolding tableAnswer countsAnswer boundAnswer
-by-table s =
+by-table : (old : Bool) (s : List ℕ) → By (answerBy old s)
+unfolding answerBy countsAnswer boundAnswer
+by-table old s =
     by-then (countsAnswer s) _
     (by-then _ _ (by-field s 0 0x01 (omega arith) 4) (λ p. by-test _ _ (record { number = omega arith; place = omega arith })))
     (λ p.
     let fit = counts-stand s p .1 in
     by-then _ _
     (by-then _ _ (by-field s 7 0x02 (omega arith) 4) (λ q. by-test _ _ (record { number = omega arith; place = omega arith })))
-    (λ q. by-all (countsIn s) s (fit .states .1) (fit .inputs .1)))
+    (λ q. by-all old (countsIn s) s (fit .states .1) (fit .inputs .1)))
 
-pub table-fits : (s : List ℕ) → Fits (replyOf (tableAnswer s))
-table-fits s =
-    let by = by-table s in
+pub table-fits : (old : Bool) (s : List ℕ) → Fits (replyOf (answerBy old s))
+table-fits old s =
+    let by = by-table old s in
     record { number = by .number; place = omega (arith, by .place) }

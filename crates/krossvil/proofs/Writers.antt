@@ -7,6 +7,7 @@ use native.Mathlib.Omega.{arith}
 use borrow.Author.Tests.{lt-ltb, le-ltb, ltb-true}
 use lib.ListN.{length}
 use Rattle.wire.specs.Choice.{_<?_, _=?_, if_then_else_}
+use Rattle.wire.specs.Made.{Made, refused, made, answerIn, bufferIn}
 use Rattle.wire.specs.Reply.{Reply, gives, refuses, numberIn}
 use Rattle.krossvil.specs.Host.{told, codeOf, answerAfter, bufferAfter}
 use Rattle.krossvil.proofs.Outcomes.{Owed, told-fits}
@@ -85,3 +86,23 @@ module _ (k : ℕ) (replyIn : ℕ → Reply) (written : List ℕ → List ℕ) (
       let same = any-room w short buffer room in
       let told-same = ap (λ x. told x (length answer)) is ∙ same .0 in
       (owed .0 ∙ ap codeOf told-same, (owed .1 ∙ ap (λ x. answerAfter x answer) told-same, same .1))
+
+-- ---- What was made
+
+told-made : {A : Type 0} (replyOf : A → Reply) (short a : A) (values : List ℕ) → replyOf short ≡ refuses 30 0 → replyOf a ≡ gives values → (full : Bool) →
+    replyOf (if full then short else a) ≡ (if full then refuses 30 0 else gives values)
+told-made replyOf short a values thirty gave true = thirty
+told-made replyOf short a values thirty gave false = gave
+
+-- With an answer that gives k numbers where there are bytes.
+abbrev pub Gives : {A : Type 0} → (A → Reply) → ℕ → Made A → Type 0
+Gives replyOf k (refused a) = Unit
+Gives replyOf k (made a bytes) = (values : List ℕ) × (length values ≡ k) × (replyOf a ≡ gives values)
+
+pub made-writes : {A : Type 0} (replyOf : A → Reply) (short : A) → replyOf short ≡ refuses 30 0 → (k : ℕ) (m : Made A) → Gives replyOf k m →
+    Writes k (λ room. replyOf (answerIn short m room)) (bufferIn m)
+unfolding answerIn bufferIn
+made-writes replyOf short thirty k (refused a) g = never (replyOf a) (λ room. refl) (λ buffer. refl)
+made-writes replyOf short thirty k (made a bytes) (values, few, gave) =
+    makes (length bytes) values few (λ room. told-made replyOf short a values thirty gave (room <? length bytes))
+    (λ buffer h. rw (lt-ltb (length buffer) (length bytes) h) refl)

@@ -4,11 +4,15 @@ use Prim.Native.Nat.{ℕ, _+_, _*_, _^_}
 use lib.ListN.{length, drop}
 use Rattle.wire.specs.Choice.{_<?_, _=?_, if_then_else_}
 use Rattle.wire.specs.Encode.{bytes32}
+use Rattle.wire.specs.Made.{answerIn, bufferIn}
 use Rattle.wire.specs.Reply.{Reply, refuses, numberIn, placeIn, valuesIn}
 use Rattle.journal.specs.Answer as journal
 use Rattle.journal.specs.Check.{checkOf}
 use Rattle.runtime.specs.Answer as runtime
 use Rattle.runtime.specs.Run.{runOf, answerOf, bufferOf}
+use Rattle.convert.specs.declared.Answer.the-variants.{BufferTooShort}
+use Rattle.convert.specs.Answer as convert
+use Rattle.convert.specs.Convert as convert′
 use Rattle.reaction.specs.Answer as reaction
 use Rattle.reaction.specs.Reaction.{reactOf}
 
@@ -50,3 +54,9 @@ runJournal table stimulus buffer room = bufferAfter (runTold table stimulus buff
 
 abbrev pub reactionTold : List ℕ → ℕ → ℕ → ℕ → Reply
 reactionTold table P A room = told (reaction.replyOf (reactOf table P A)) room
+
+abbrev pub convertTold : List ℕ → List ℕ → ℕ → Reply
+convertTold table buffer room = told (convert.replyOf (answerIn BufferTooShort (convert′.madeOf table) (length buffer))) room
+
+abbrev pub convertTable : List ℕ → List ℕ → ℕ → List ℕ
+convertTable table buffer room = bufferAfter (convertTold table buffer room) (bufferIn (convert′.madeOf table) buffer) buffer

@@ -5,3 +5,5 @@ pub mod Walks
 pub mod Journals
 pub mod Runtimes
 pub mod Never28
+pub mod Emptied
+pub mod Conversions

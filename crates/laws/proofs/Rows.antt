@@ -16,24 +16,15 @@ use Rattle.wire.proofs.Bytes.{byte-written, rest-written, number-written, field
 use Rattle.table.specs.declared.Answer.{Answer}
 use Rattle.table.specs.declared.Answer.the-variants.{Passes}
 use Rattle.table.specs.Entries.{entriesFrom, values, filled, zeros}
-use Rattle.table.specs.Check.{fieldAnswer, rowAnswer, below, byteEntry, wordEntry, bytesAnswer, wordsAnswer}
+use Rattle.table.specs.Check.{fieldAnswer, rowAnswer, below, byteEntry, wordEntry}
 use Rattle.table.specs.Table.{Uses}
 use Rattle.table.specs.Encode.{words}
 use Rattle.table.proofs.Answers.{holds, goes-on}
-use Rattle.table.proofs.Rows.{is-whole, row-stands, is-below}
+use Rattle.table.proofs.Rows.{is-whole, is-below}
+use Rattle.table.proofs.Words.{length-words, words-append}
 use Rattle.table.proofs.Values.{length-values, getD-filled, filled-uses}
 
 -- ---- Entries in bytes
-
-length-words : (ws : List ℕ) → length (words ws) ≡ 4 * length ws
-unfolding words
-length-words [] = refl
-length-words (w ∷ ws) = omega (arith, length-words ws)
-
-words-append : (vs ws : List ℕ) → words (vs ++ ws) ≡ words vs ++ words ws
-unfolding words
-words-append [] ws = refl
-words-append (v ∷ vs) ws = rw (words-append vs ws)
 
 word-written : (s rest ws : List ℕ) (at : ℕ) → drop at s ≡ words ws ++ rest → (k : ℕ) → k < length ws → number32At s (at + 4 * k) ≡ getD ws k 0
 unfolding words
@@ -98,22 +89,24 @@ unfolding entriesFrom
 each-pass entry zero i h = refl
 each-pass entry (suc n) i h = goes-on (h i (omega arith)) (each-pass entry n (i + 1) (λ k l. h k (omega arith)))
 
-same-array : (n size : ℕ) (a b : List ℕ) → Uses n size a → Uses n size b → ((k : ℕ) → k < n → getD a k 0 ≡ getD b k 0) → a ≡ b
+pub same-array : (n size : ℕ) (a b : List ℕ) → Uses n size a → Uses n size b → ((k : ℕ) → k < n → getD a k 0 ≡ getD b k 0) → a ≡ b
 same-array n size a b in-a in-b same = ext-getD 0 a b (in-a .places ∙ sym (in-b .places)) (λ k l. each k (k <? n) refl)
   where
     each : (k : ℕ) (t : Bool) → (k <? n) ≡ t → getD a k 0 ≡ getD b k 0
     each k true e = same k (ltb-true k n e)
     each k false e = in-a .rest k (ltb-false k n e) ∙ sym (in-b .rest k (ltb-false k n e))
 
+pub all-pass : (s : List ℕ) (at tag size : ℕ) (entry : ℕ → Answer) (n : ℕ) → WholeAt s at tag size →
+    ((k : ℕ) → k < n → entry k ≡ Passes) → rowAnswer s at tag size entry n ≡ Passes
+unfolding rowAnswer
+all-pass s at tag size entry n whole each =
+    sym (goes-on (field-passes s at tag size whole) (each-pass entry n 0 (λ k l. each k (omega arith))))
+
 module _ {s rest array : List ℕ} {at tag size n : ℕ} {entry : ℕ → ℕ} (row : RowWritten s rest array at tag size n entry) where
   pub row-passes : (limit : ℕ) (called : ℕ → Answer) → ((k : ℕ) → k < n → getD array k 0 < limit) →
       rowAnswer s at tag size (below limit entry called) n ≡ Passes
-  unfolding rowAnswer
   row-passes limit called low =
-      let each : (k : ℕ) → k < 0 + n → below limit entry called k ≡ Passes =
-      λ k l. let h : k < n = omega arith in is-below limit entry called k (rw (row .entries k h) (low k h))
-      in
-      sym (goes-on (field-passes s at tag size (row .whole)) (each-pass _ n 0 each))
+      all-pass s at tag size _ n (row .whole) (λ k h. is-below limit entry called k (rw (row .entries k h) (low k h)))
 
   pub row-kept : (places : ℕ) → n ≤ places → Uses n places array → filled entry n (zeros places) ≡ array
   row-kept places fits uses =
@@ -121,18 +114,15 @@ module _ {s rest array : List ℕ} {at tag size n : ℕ} {entry : ℕ → ℕ} (
 
 -- ---- A row that is read
 
-front : (entry : ℕ → ℕ) (n places : ℕ) → take n (filled entry n (zeros places)) ≡ values entry n
+pub front : (entry : ℕ → ℕ) (n places : ℕ) → take n (filled entry n (zeros places)) ≡ values entry n
 front entry n places = take-at (values entry n) (drop n (zeros places)) n (length-values entry n)
 
-module _ (s : List ℕ) (bytes : Bytes s) (at tag n limit places : ℕ) where
-  pub byte-row-read : bytesAnswer s at tag n limit ≡ Passes →
-      drop at s ≡ field tag (take n (filled (byteEntry s at) n (zeros places))) ++ drop (at + 3 + n) s
-  byte-row-read passes =
-      let whole = row-stands s at tag n _ n passes in
+module _ (s : List ℕ) (bytes : Bytes s) (at tag n places : ℕ) where
+  pub byte-row-read : WholeAt s at tag n → drop at s ≡ field tag (take n (filled (byteEntry s at) n (zeros places))) ++ drop (at + 3 + n) s
+  byte-row-read whole =
       rw (front (byteEntry s at) n places, ← bytes-read s (at + 3) n (whole .fits)) (field-read s bytes at tag n whole)
 
-  pub word-row-read : wordsAnswer s at tag n limit ≡ Passes →
+  pub word-row-read : WholeAt s at tag (4 * n) →
       drop at s ≡ field tag (words (take n (filled (wordEntry s at) n (zeros places)))) ++ drop (at + 3 + 4 * n) s
-  word-row-read passes =
-      let whole = row-stands s at tag (4 * n) _ n passes in
+  word-row-read whole =
       rw (front (wordEntry s at) n places, ← words-read s (at + 3) bytes n (whole .fits)) (field-read s bytes at tag (4 * n) whole)

@@ -2,3 +2,4 @@ pub mod Tables
 pub mod Walks
 pub mod Journals
 pub mod Runtimes
+pub mod Conversions

@@ -1,15 +1,15 @@
 -- One field, outcome by outcome, and the loop that checks a field's entries in order, whatever they are.
-use mathlib.Core.Path.{_≡_, refl, _∙_}
+use mathlib.Core.Path.{_≡_, refl, sym, _∙_}
 use mathlib.Core.List.{List, [], _∷_}
-use mathlib.Core.Bool.{Bool, true, false, _&&_}
+use mathlib.Core.Bool.{Bool, true, false, _&&_, _||_}
 use Prim.Native.Nat.{ℕ, zero, suc, _+_, _-_, _<_, _≤_}
 use native.Mathlib.Nat.{not-suc-le-zero}
 use native.Mathlib.Omega.{arith}
-use borrow.Author.Tests.{eqb-true, le-ltb, lt-ltb, ltb-true}
+use borrow.Author.Tests.{eq-eqb, eqb-true, le-ltb, lt-ltb, ltb-true}
 use denote.Enum.Declared.{tagOf}
 use types.Run.{OneOf, miss}
 use lib.ListN.{length}
-use Rattle.wire.specs.Choice.{_=?_, if_then_else_}
+use Rattle.wire.specs.Choice.{_<?_, _=?_}
 use Rattle.wire.specs.Field.{fieldAt}
 use Rattle.wire.specs.declared.Field.{Field}
 use Rattle.wire.specs.declared.Field.the-variants.{Whole, RunOut}
@@ -17,10 +17,10 @@ use Rattle.wire.proofs.Choice.{both}
 use Rattle.wire.proofs.Laws.{WholeAt, whole-at}
 use Rattle.wire.proofs.Field as FieldT
 use Rattle.table.specs.declared.Answer.{Answer}
-use Rattle.table.specs.declared.Answer.the-variants.{Passes, RunsOut, WrongTagOrLength, HoldTooLong, UnknownInputDelayed}
+use Rattle.table.specs.declared.Answer.the-variants.{Passes, RunsOut, WrongTagOrLength, UnknownInputDelayed, IdleSet}
 use Rattle.table.specs.Answer.{passes?, _or-else_, _and-then_}
 use Rattle.table.specs.Entries.{entriesFrom}
-use Rattle.table.specs.Check.{named, fieldAnswer, rowAnswer, below, badWord}
+use Rattle.table.specs.Check.{named, fieldAnswer, rowAnswer, below, setAnswer}
 use Rattle.table.proofs.Answers.{Passed, Refused, let-pass, refusal-stands, holds, fails, told}
 use Rattle.table.proofs.Answers.{refusal-stops, stops, goes-on, past, first-passes, rest-passes}
 
@@ -118,10 +118,29 @@ module _ (limit : ℕ) (entry : ℕ → ℕ) (called : ℕ → Answer) (k : ℕ)
   unfolding below
   limited r e = ltb-true (entry k) limit (told _ (called k) r e)
 
-pub bad-word-refuses : (tag place : ℕ) → passes? (badWord tag place) ≡ false
-unfolding badWord
-bad-word-refuses tag place = go (tag =? 0x05)
+-- ---- Delayed sets
+
+module _ (old : Bool) (hold set limit place : ℕ) where
+  pub unknown-input : limit ≤ set → UnknownInputDelayed place ≡ setAnswer old hold set limit place
+  unfolding setAnswer
+  unknown-input h = refusal-stops _ (fails (le-ltb set limit h)) refl
+
+  pub known-inputs : set < limit → (r : Answer) → r ≡ (old || (0 <? hold) || (set =? 0) or-else IdleSet place) → r ≡ setAnswer old hold set limit place
+  unfolding setAnswer
+  known-inputs h r e = goes-on (holds _ (lt-ltb set limit h)) e
+
+  pub set-known : setAnswer old hold set limit place ≡ Passes → set < limit
+  unfolding setAnswer
+  set-known e = ltb-true set limit (told _ (UnknownInputDelayed place) refl (first-passes _ _ e))
+
+pub set-not-idle : (hold set limit place : ℕ) → setAnswer false hold set limit place ≡ Passes → hold ≡ 0 → set ≡ 0
+unfolding setAnswer
+set-not-idle hold set limit place e none = eqb-true set 0 (rw none at (told _ (IdleSet place) refl (rest-passes _ _ e)))
+
+pub set-passes : (old : Bool) (hold set limit place : ℕ) → set < limit → (old ≡ false → hold ≡ 0 → set ≡ 0) → setAnswer old hold set limit place ≡ Passes
+set-passes old hold set limit place low none = sym (known-inputs old hold set limit place low Passes (sym (holds _ (go old hold none))))
   where
-    go : (b : Bool) → passes? (if b then HoldTooLong place else UnknownInputDelayed place) ≡ false
-    go true = refl
-    go false = refl
+    go : (o : Bool) (h : ℕ) → (o ≡ false → h ≡ 0 → set ≡ 0) → (o || (0 <? h) || (set =? 0)) ≡ true
+    go true h idle = refl
+    go false zero idle = eq-eqb set 0 (idle refl refl)
+    go false (suc h) idle = rw (lt-ltb 0 (suc h) (omega arith))

@@ -1,7 +1,7 @@
 -- What is known of bytes that pass, field by field.
 use mathlib.Core.Path.{_≡_, refl}
 use mathlib.Core.List.{List}
-use mathlib.Core.Bool.{true}
+use mathlib.Core.Bool.{Bool, true}
 use Prim.Native.Nat.{ℕ, _+_, _*_, _^_, _<_, _≤_}
 use native.Mathlib.Omega.{arith}
 use borrow.Author.Tests.{leb-true, ltb-true}
@@ -12,8 +12,8 @@ use Rattle.wire.proofs.Laws.{WholeAt}
 use Rattle.table.specs.declared.Answer.the-variants.{Passes, CountOutOfRange, BoundOutOfRange, BytesAfter}
 use Rattle.table.specs.declared.Counts.{Counts}
 use Rattle.table.specs.Table.{largestBound, longestHold}
-use Rattle.table.specs.Check.{bytesAnswer, wordsAnswer, countsIn, boundIn, inRange, countsInRange, countsAnswer, boundAnswer}
-use Rattle.table.specs.Check.{nextField, holdField, delayedField, tableEnd, holdsAnswer, entriesAnswer, tableAnswer}
+use Rattle.table.specs.Check.{bytesAnswer, wordsAnswer, setsAnswer, countsIn, boundIn, inRange, countsInRange, countsAnswer, boundAnswer}
+use Rattle.table.specs.Check.{nextField, holdField, delayedField, tableEnd, holdsAnswer, entriesAnswer, answerBy}
 use Rattle.table.proofs.Answers.{told, first-passes, rest-passes}
 use Rattle.table.proofs.Rows.{field-stands, row-stands}
 
@@ -51,7 +51,7 @@ bound-stands s e =
     let b = in-range 1 largestBound (boundIn s) (told _ (BoundOutOfRange 7) refl (rest-passes _ _ e)) in
     (field-stands s 7 0x02 4 (first-passes _ _ e), b .0, b .1)
 
-pub record TableStands (s : List ℕ) (c : Counts) : Type 0 where
+pub record TableStands (old : Bool) (s : List ℕ) (c : Counts) : Type 0 where
   pub counts-field : WholeAt s 0 0x01 4
   pub counts : CountsFit c
   pub bound-field : WholeAt s 7 0x02 4
@@ -59,12 +59,12 @@ pub record TableStands (s : List ℕ) (c : Counts) : Type 0 where
   pub outputs : bytesAnswer s 14 0x03 (c .states) (c .outputs) ≡ Passes
   pub next : bytesAnswer s (nextField c) 0x04 (c .states * c .inputs) (c .states) ≡ Passes
   pub holds : wordsAnswer s (holdField c) 0x05 (c .states) (longestHold + 1) ≡ Passes
-  pub delayed : wordsAnswer s (delayedField c) 0x06 (c .states) (2 ^ c .inputs) ≡ Passes
+  pub delayed : setsAnswer old s (holdField c) (delayedField c) (c .states) (2 ^ c .inputs) ≡ Passes
   pub ends : length s ≡ tableEnd c
 
-pub table-stands : (s : List ℕ) → tableAnswer s ≡ Passes → TableStands s (countsIn s)
-unfolding tableAnswer entriesAnswer holdsAnswer
-table-stands s e =
+pub table-stands : (old : Bool) (s : List ℕ) → answerBy old s ≡ Passes → TableStands old s (countsIn s)
+unfolding answerBy entriesAnswer holdsAnswer
+table-stands old s e =
     let c = countsIn s in
     let e₂ = rest-passes _ _ e in
     let e₃ = rest-passes _ _ e₂ in

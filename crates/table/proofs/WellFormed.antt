@@ -1,7 +1,7 @@
 -- A table that passes is well formed.
 use mathlib.Core.Path.{_≡_, refl}
 use mathlib.Core.List.{List}
-use mathlib.Core.Bool.{false}
+use mathlib.Core.Bool.{Bool, false}
 use Prim.Native.Nat.{ℕ, _+_, _*_, _^_, _<_, _≤_}
 use native.Mathlib.Nat.{mul-le-mul}
 use native.Mathlib.Omega.{arith}
@@ -12,10 +12,10 @@ use Rattle.table.specs.declared.Answer.{Answer}
 use Rattle.table.specs.declared.Answer.the-variants.{Passes}
 use Rattle.table.specs.Answer.{passes?}
 use Rattle.table.specs.Entries.{filled, zeros}
-use Rattle.table.specs.Table.{longestHold, WellFormed}
-use Rattle.table.specs.Check.{below, rowAnswer, byteEntry, bytesAnswer, wordEntry, wordsAnswer}
-use Rattle.table.specs.Check.{countsIn, nextField, holdField, delayedField, tableAnswer, tableOf, tableIn}
-use Rattle.table.proofs.Rows.{row-each, limited, bad-word-refuses}
+use Rattle.table.specs.Table.{longestHold, WellFormedBy, WellFormed}
+use Rattle.table.specs.Check.{below, rowAnswer, byteEntry, bytesAnswer, wordEntry, wordsAnswer, setEntry, setsAnswer}
+use Rattle.table.specs.Check.{countsIn, nextField, holdField, delayedField, answerBy, tableAnswer, tableOf, tableIn}
+use Rattle.table.proofs.Rows.{row-each, limited, set-known, set-not-idle}
 use Rattle.table.proofs.Values.{getD-filled, filled-uses}
 use Rattle.table.proofs.Stands.{table-stands}
 
@@ -30,13 +30,28 @@ module _ (s : List ℕ) (at tag n limit places : ℕ) (fits : n ≤ places) wher
   bytes-below = held-below n (byteEntry s at) _ (λ k. refl)
 
   words-below : wordsAnswer s at tag n limit ≡ Passes → (k : ℕ) → k < n → getD (filled (wordEntry s at) n (zeros places)) k 0 < limit
-  words-below = held-below (4 * n) (wordEntry s at) _ (λ k. bad-word-refuses tag (at + 3 + 4 * k))
+  words-below = held-below (4 * n) (wordEntry s at) _ (λ k. refl)
 
-pub well-formed : (s : List ℕ) → tableAnswer s ≡ Passes → WellFormed (tableIn s)
+-- Delayed sets that passed, as the arrays have them.
+module _ (old : Bool) (s : List ℕ) (holds at n limit places : ℕ) (fits : n ≤ places) (e : setsAnswer old s holds at n limit ≡ Passes) where
+  passes-set : (k : ℕ) → k < n → setEntry old s holds at limit k ≡ Passes
+  passes-set = row-each s at 0x06 (4 * n) _ n e
+
+  set-below : (k : ℕ) → k < n → getD (filled (wordEntry s at) n (zeros places)) k 0 < limit
+  set-below k h = rw (getD-filled (wordEntry s at) n places fits k h) (set-known old _ _ limit _ (passes-set k h))
+
+  never-idle : old ≡ false → (k : ℕ) → k < n → getD (filled (wordEntry s holds) n (zeros places)) k 0 ≡ 0 →
+      getD (filled (wordEntry s at) n (zeros places)) k 0 ≡ 0
+  never-idle new k h none =
+      let hold = rw (getD-filled (wordEntry s holds) n places fits k h) at none in
+      let passed = rw new at (passes-set k h) in
+      rw (getD-filled (wordEntry s at) n places fits k h) (set-not-idle _ _ limit _ passed hold)
+
+pub well-formed-by : (old : Bool) (s : List ℕ) → answerBy old s ≡ Passes → WellFormedBy old (tableIn s)
 unfolding tableOf
-well-formed s e =
+well-formed-by old s e =
     let c = countsIn s in
-    let stands = table-stands s e in
+    let stands = table-stands old s e in
     let fit = stands .counts in
     let few : c .states ≤ 32 = fit .states .1 in
     let pairs = c .states * c .inputs in
@@ -52,9 +67,13 @@ well-formed s e =
           bytes-below s (nextField c) 0x04 pairs (c .states) 1024 many (stands .next) (q * c .inputs + i) (digits-lt hq hi);
       hold = λ q h. let b = words-below s (holdField c) 0x05 (c .states) (longestHold + 1) 32 few (stands .holds) q h in omega arith;
       delayed = λ q i h m.
-          member-below _ (c .inputs) i (words-below s (delayedField c) 0x06 (c .states) (2 ^ c .inputs) 32 few (stands .delayed) q h) m;
+          member-below _ (c .inputs) i (set-below old s (holdField c) (delayedField c) (c .states) (2 ^ c .inputs) 32 few (stands .delayed) q h) m;
+      not-idle = never-idle old s (holdField c) (delayedField c) (c .states) (2 ^ c .inputs) 32 few (stands .delayed);
       output-uses = filled-uses (byteEntry s 14) (c .states) 32 few;
       next-uses = filled-uses (byteEntry s (nextField c)) pairs 1024 many;
       hold-uses = filled-uses (wordEntry s (holdField c)) (c .states) 32 few;
       delayed-uses = filled-uses (wordEntry s (delayedField c)) (c .states) 32 few;
     }
+
+pub well-formed : (s : List ℕ) → tableAnswer s ≡ Passes → WellFormed (tableIn s)
+well-formed = well-formed-by false

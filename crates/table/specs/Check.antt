@@ -1,16 +1,17 @@
 -- The table check, in the order of docs/RULES.md, "Refusals": fields in file order, each for 1, 2, then its content; 8 last.
+-- The check of old tables is the same but for 11, which it does not know: `old` says which of the two is meant.
 use mathlib.Core.Path.{_≡_}
 use mathlib.Core.List.{List}
-use mathlib.Core.Bool.{Bool, _&&_}
+use mathlib.Core.Bool.{Bool, true, false, _&&_, _||_}
 use Prim.Native.Nat.{ℕ, _+_, _*_, _^_, _≤_}
 use lib.ListN.{length}
-use Rattle.wire.specs.Choice.{_<?_, _≤?_, _=?_, if_then_else_}
+use Rattle.wire.specs.Choice.{_<?_, _≤?_, _=?_}
 use Rattle.wire.specs.Field.{byteAt, number32At, fieldAt}
 use Rattle.wire.specs.declared.Field.{Field}
 use Rattle.wire.specs.declared.Field.the-variants.{Whole, RunOut}
 use Rattle.table.specs.declared.Answer.{Answer}
 use Rattle.table.specs.declared.Answer.the-variants.{RunsOut, WrongTagOrLength, CountOutOfRange, BoundOutOfRange}
-use Rattle.table.specs.declared.Answer.the-variants.{EntryOutOfRange, HoldTooLong, UnknownInputDelayed, BytesAfter}
+use Rattle.table.specs.declared.Answer.the-variants.{EntryOutOfRange, HoldTooLong, UnknownInputDelayed, IdleSet, BytesAfter}
 use Rattle.table.specs.declared.Counts.{Counts}
 use Rattle.table.specs.declared.Places.{Places}
 use Rattle.table.specs.declared.Table.{Table}
@@ -43,15 +44,25 @@ byteEntry s at k = byteAt s (at + 3 + k)
 abbrev pub bytesAnswer : List ℕ → ℕ → ℕ → ℕ → ℕ → Answer
 bytesAnswer s at tag n limit = rowAnswer s at tag n (below limit (byteEntry s at) (λ k. EntryOutOfRange (at + 3 + k))) n
 
--- Entries of four bytes. What a bad one is called goes by its field.
+-- Entries of four bytes.
 abbrev pub wordEntry : List ℕ → ℕ → ℕ → ℕ
 wordEntry s at k = number32At s (at + 3 + 4 * k)
 
-unfoldable pub badWord : ℕ → ℕ → Answer
-badWord tag place = if tag =? 0x05 then HoldTooLong place else UnknownInputDelayed place
-
+-- Field 05: holds.
 abbrev pub wordsAnswer : List ℕ → ℕ → ℕ → ℕ → ℕ → Answer
-wordsAnswer s at tag n limit = rowAnswer s at tag (4 * n) (below limit (wordEntry s at) (λ k. badWord tag (at + 3 + 4 * k))) n
+wordsAnswer s at tag n limit = rowAnswer s at tag (4 * n) (below limit (wordEntry s at) (λ k. HoldTooLong (at + 3 + 4 * k))) n
+
+-- Field 06: delayed sets. 7, then 11: a set on a state that has no hold does nothing.
+unfoldable pub setAnswer : (old : Bool) → (hold set limit place : ℕ) → Answer
+setAnswer old hold set limit place =
+    set <? limit or-else UnknownInputDelayed place
+    and-then old || (0 <? hold) || (set =? 0) or-else IdleSet place
+
+abbrev pub setEntry : (old : Bool) → List ℕ → (holds at limit : ℕ) → ℕ → Answer
+setEntry old s holds at limit k = setAnswer old (wordEntry s holds k) (wordEntry s at k) limit (at + 3 + 4 * k)
+
+abbrev pub setsAnswer : (old : Bool) → List ℕ → (holds at n limit : ℕ) → Answer
+setsAnswer old s holds at n limit = rowAnswer s at 0x06 (4 * n) (setEntry old s holds at limit) n
 
 -- ---- The whole table
 
@@ -97,21 +108,28 @@ pub record PlacesOf (c : Counts) (p : Places) : Type 0 where
   pub end : p .end ≡ tableEnd c
 
 -- Fields 05 and 06, and the bytes after them. A set of inputs below I is a number below 2 ^ I.
-unfoldable pub holdsAnswer : Counts → List ℕ → Answer
-holdsAnswer c s =
+unfoldable pub holdsAnswer : (old : Bool) → Counts → List ℕ → Answer
+holdsAnswer old c s =
     wordsAnswer s (holdField c) 0x05 (c .states) (longestHold + 1)
-    and-then wordsAnswer s (delayedField c) 0x06 (c .states) (2 ^ c .inputs)
+    and-then setsAnswer old s (holdField c) (delayedField c) (c .states) (2 ^ c .inputs)
     and-then length s ≤? tableEnd c or-else BytesAfter (tableEnd c)
 
 -- Fields 03 and 04, and then the holds.
-unfoldable pub entriesAnswer : Counts → List ℕ → Answer
-entriesAnswer c s =
+unfoldable pub entriesAnswer : (old : Bool) → Counts → List ℕ → Answer
+entriesAnswer old c s =
     bytesAnswer s 14 0x03 (c .states) (c .outputs)
     and-then bytesAnswer s (nextField c) 0x04 (c .states * c .inputs) (c .states)
-    and-then holdsAnswer c s
+    and-then holdsAnswer old c s
 
-unfoldable pub tableAnswer : List ℕ → Answer
-tableAnswer s = countsAnswer s and-then boundAnswer s and-then entriesAnswer (countsIn s) s
+unfoldable pub answerBy : (old : Bool) → List ℕ → Answer
+answerBy old s = countsAnswer s and-then boundAnswer s and-then entriesAnswer old (countsIn s) s
+
+abbrev pub tableAnswer : List ℕ → Answer
+tableAnswer = answerBy false
+
+-- By the old rules, before 11.
+abbrev pub oldAnswer : List ℕ → Answer
+oldAnswer = answerBy true
 
 -- ---- The table as one value
 

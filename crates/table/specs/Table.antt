@@ -1,7 +1,7 @@
 -- What a table says, and which tables are well formed: docs/RULES.md, "Bytes".
 use mathlib.Core.Path.{_≡_}
 use mathlib.Core.List.{List}
-use mathlib.Core.Bool.{Bool, true}
+use mathlib.Core.Bool.{Bool, true, false}
 use Prim.Native.Nat.{ℕ, _+_, _*_, _<_, _≤_}
 use lib.ListN.{length, getD}
 pub use Rattle.sets.specs.Sets.{member}
@@ -35,7 +35,8 @@ pub record Uses (n size : ℕ) (array : List ℕ) : Type 0 where
   pub places : length array ≡ size
   pub rest : (k : ℕ) → n ≤ k → getD array k 0 ≡ 0
 
-pub record WellFormed (t : Table) : Type 0 where
+-- By the old rules a set may stand where there is no hold.
+pub record WellFormedBy (old : Bool) (t : Table) : Type 0 where
   pub states : (1 ≤ t .states) × (t .states ≤ 32)
   pub inputs : (1 ≤ t .inputs) × (t .inputs ≤ 32)
   pub outputs : (1 ≤ t .outputs) × (t .outputs ≤ 32)
@@ -45,7 +46,11 @@ pub record WellFormed (t : Table) : Type 0 where
   pub next : (q i : ℕ) → q < t .states → i < t .inputs → nextOf t q i < t .states
   pub hold : (q : ℕ) → q < t .states → holdOf t q ≤ longestHold
   pub delayed : (q i : ℕ) → q < t .states → delays t q i ≡ true → i < t .inputs
+  pub not-idle : old ≡ false → (q : ℕ) → q < t .states → holdOf t q ≡ 0 → delayedOf t q ≡ 0
   pub output-uses : Uses (t .states) 32 (t .output)
   pub next-uses : Uses (t .states * t .inputs) 1024 (t .next)
   pub hold-uses : Uses (t .states) 32 (t .hold)
   pub delayed-uses : Uses (t .states) 32 (t .delayed)
+
+abbrev pub WellFormed : Table → Type 0
+WellFormed = WellFormedBy false

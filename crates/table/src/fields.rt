@@ -1,8 +1,9 @@
 // One field of a table: whether it stands where it should, and whether its entries are what they may be.
 ghost use mathlib.Core.Path.{_≡_};
-ghost use Prim.Native.Nat.{_≤_};
+ghost use Prim.Native.Nat.{_+_, _*_, _≤_};
 ghost use lib.ListN.{length};
-ghost use Rattle.table.specs.Check.{fieldAnswer, badWord, bytesAnswer, wordsAnswer};
+ghost use Rattle.wire.specs.Field.{number32At};
+ghost use Rattle.table.specs.Check.{fieldAnswer, bytesAnswer, wordsAnswer, setAnswer, setsAnswer};
 use super::Answer;
 use super::or_else;
 use wire::Field;
@@ -46,17 +47,7 @@ pub fn check_bytes(s: &[u8], at: usize, tag: u8, n: usize, limit: u8) -> Answer
     Answer::Passes
 }
 
-fn bad_word(tag: u8, place: usize) -> Answer
-    ensures { λ r. ⌜ r ≡ badWord tag place ⌝ }
-{
-    if tag == 0x05 {
-        Answer::HoldTooLong(place)
-    } else {
-        Answer::UnknownInputDelayed(place)
-    }
-}
-
-// A field of n entries of four bytes, each below the limit.
+// Holds: a field of n entries of four bytes, each below the limit.
 pub fn check_words(s: &[u8], at: usize, tag: u8, n: usize, limit: u64) -> Answer
     requires { ⌜ (at ≤ length (now s)) × (n ≤ 32) ⌝ }
     ensures { λ r. ⌜ r ≡ wordsAnswer (now (s .entry)) at tag n limit ⌝ }
@@ -69,8 +60,43 @@ pub fn check_words(s: &[u8], at: usize, tag: u8, n: usize, limit: u64) -> Answer
     while k < n {
         let place = at + 3 + 4 * k;
         if limit <= number32(s, place) as u64 {
-            return bad_word(tag, place);
+            return Answer::HoldTooLong(place);
         }
+        k += 1;
+    }
+    Answer::Passes
+}
+
+// The delayed set at `place`, of a state whose hold stands at `hold`.
+fn check_set(s: &[u8], hold: usize, place: usize, limit: u64, old: bool) -> Answer
+    requires { ⌜ (hold + 4 ≤ length (now s)) × (place + 4 ≤ length (now s)) ⌝ }
+    ensures { λ r. ⌜ r ≡ setAnswer old (number32At (now (s .entry)) hold) (number32At (now (s .entry)) place) limit place ⌝ }
+{
+    let set = number32(s, place);
+    if limit <= set as u64 {
+        return Answer::UnknownInputDelayed(place);
+    }
+    or_else(
+        old | (0 < number32(s, hold)) | (set == 0),
+        Answer::IdleSet(place),
+    )
+}
+
+// Delayed sets: a field of n entries of four bytes, beside the field of holds.
+pub fn check_sets(s: &[u8], holds: usize, at: usize, n: usize, limit: u64, old: bool) -> Answer
+    requires { ⌜ (holds + 3 + 4 * n ≤ at) × (at ≤ length (now s)) × (n ≤ 32) ⌝ }
+    ensures { λ r. ⌜ r ≡ setsAnswer old (now (s .entry)) holds at n limit ⌝ }
+{
+    let stands = expect_field(s, at, 0x06, 4 * n);
+    let Answer::Passes = stands else {
+        return stands;
+    };
+    let mut k = 0;
+    while k < n {
+        let set = check_set(s, holds + 3 + 4 * k, at + 3 + 4 * k, limit, old);
+        let Answer::Passes = set else {
+            return set;
+        };
         k += 1;
     }
     Answer::Passes

@@ -6,7 +6,7 @@ ghost use lib.ListN.{length, getD};
 ghost use Rattle.wire.specs.Reply.{numberIn, placeIn};
 ghost use Rattle.table.specs.Answer.{replyOf, _or-else_};
 ghost use Rattle.table.specs.Check.{countsIn, countsInRange, PlacesOf};
-ghost use Rattle.table.specs.Check.{countsAnswer, boundAnswer, holdsAnswer, entriesAnswer, tableAnswer, tableIn};
+ghost use Rattle.table.specs.Check.{countsAnswer, boundAnswer, holdsAnswer, entriesAnswer, answerBy, tableAnswer, tableIn};
 use sets::set_limit;
 use wire::number32;
 use wire::wide;
@@ -18,6 +18,7 @@ use arrays::fill_next;
 use arrays::fill_output;
 use arrays::fill_state;
 use fields::check_bytes;
+use fields::check_sets;
 use fields::check_words;
 use fields::expect_field;
 
@@ -52,6 +53,7 @@ pub enum Answer {
     EntryOutOfRange(usize),
     HoldTooLong(usize),
     UnknownInputDelayed(usize),
+    IdleSet(usize),
     BytesAfter(usize),
 }
 
@@ -64,12 +66,12 @@ pub struct Counts {
 }
 
 // How many next states field 04 has, where fields 04, 05 and 06 start, and where the table ends.
-struct Places {
-    pairs: usize,
-    next: usize,
-    hold: usize,
-    delayed: usize,
-    end: usize,
+pub struct Places {
+    pub pairs: usize,
+    pub next: usize,
+    pub hold: usize,
+    pub delayed: usize,
+    pub end: usize,
 }
 
 impl Answer {
@@ -86,6 +88,7 @@ impl Answer {
             Answer::EntryOutOfRange(_) => 5,
             Answer::HoldTooLong(_) => 6,
             Answer::UnknownInputDelayed(_) => 7,
+            Answer::IdleSet(_) => 11,
             Answer::BytesAfter(_) => 8,
         }
     }
@@ -102,6 +105,7 @@ impl Answer {
             Answer::EntryOutOfRange(at) => at,
             Answer::HoldTooLong(at) => at,
             Answer::UnknownInputDelayed(at) => at,
+            Answer::IdleSet(at) => at,
             Answer::BytesAfter(at) => at,
         }
     }
@@ -114,7 +118,7 @@ fn or_else(test: bool, refusal: Answer) -> Answer
     if test { Answer::Passes } else { refusal }
 }
 
-fn counts_in(s: &[u8]) -> Counts
+pub fn counts_in(s: &[u8]) -> Counts
     requires { ⌜ 7 ≤ length (now s) ⌝ }
     ensures { λ r. ⌜ r ≡ countsIn (now (s .entry)) ⌝ }
 {
@@ -171,7 +175,7 @@ fn pairs_of(c: Counts) -> usize
     (c.states as usize) * (c.inputs as usize)
 }
 
-fn places_of(c: Counts) -> Places
+pub fn places_of(c: Counts) -> Places
     requires { ⌜ (c .states ≤ 32) × (c .inputs ≤ 32) ⌝ }
     ensures { λ r. ⌜ PlacesOf c r ⌝ }
 {
@@ -190,16 +194,23 @@ fn places_of(c: Counts) -> Places
 }
 
 // Fields 05 and 06, and the bytes after them.
-fn check_holds(s: &[u8], c: Counts, p: Places) -> Answer
+fn check_holds(s: &[u8], c: Counts, p: Places, old: bool) -> Answer
     requires { ⌜ PlacesOf c p × (p .hold ≤ length (now s)) × (c .states ≤ 32) × (c .inputs ≤ 32) ⌝ }
-    ensures { λ r. ⌜ r ≡ holdsAnswer c (now (s .entry)) ⌝ }
+    ensures { λ r. ⌜ r ≡ holdsAnswer old c (now (s .entry)) ⌝ }
 {
     let states = c.states as usize;
     let holds = check_words(s, p.hold, 0x05, states, HOLD_LIMIT);
     let Answer::Passes = holds else {
         return holds;
     };
-    let delayed = check_words(s, p.delayed, 0x06, states, set_limit(c.inputs as u32));
+    let delayed = check_sets(
+        s,
+        p.hold,
+        p.delayed,
+        states,
+        set_limit(c.inputs as u32),
+        old,
+    );
     let Answer::Passes = delayed else {
         return delayed;
     };
@@ -207,9 +218,9 @@ fn check_holds(s: &[u8], c: Counts, p: Places) -> Answer
 }
 
 // Fields 03 to 06, and the bytes after them, under the counts of field 01.
-fn check_entries(s: &[u8], c: Counts) -> Answer
+fn check_entries(s: &[u8], c: Counts, old: bool) -> Answer
     requires { ⌜ (14 ≤ length (now s)) × (c .states ≤ 32) × (c .inputs ≤ 32) ⌝ }
-    ensures { λ r. ⌜ r ≡ entriesAnswer c (now (s .entry)) ⌝ }
+    ensures { λ r. ⌜ r ≡ entriesAnswer old c (now (s .entry)) ⌝ }
 {
     let p = places_of(c);
     let outputs = check_bytes(s, 14, 0x03, c.states as usize, c.outputs);
@@ -220,12 +231,19 @@ fn check_entries(s: &[u8], c: Counts) -> Answer
     let Answer::Passes = next else {
         return next;
     };
-    check_holds(s, c, p)
+    check_holds(s, c, p, old)
 }
 
 // It only looks, and makes no table.
 pub fn check(s: &[u8]) -> Answer
     ensures { λ r. ⌜ r ≡ tableAnswer (now (s .entry)) ⌝ }
+{
+    check_by(s, false)
+}
+
+// The check, by the old rules or by today's.
+pub fn check_by(s: &[u8], old: bool) -> Answer
+    ensures { λ r. ⌜ r ≡ answerBy old (now (s .entry)) ⌝ }
 {
     let counts = check_counts(s);
     let Answer::Passes = counts else {
@@ -235,7 +253,7 @@ pub fn check(s: &[u8]) -> Answer
     let Answer::Passes = bound else {
         return bound;
     };
-    check_entries(s, counts_in(s))
+    check_entries(s, counts_in(s), old)
 }
 
 // The table in bytes that passed, its arrays filled in place.

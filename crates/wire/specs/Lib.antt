@@ -3,3 +3,4 @@ pub mod Reply
 pub mod Field
 pub mod Encode
 pub mod Standing
+pub mod Made

@@ -2,13 +2,14 @@
 use Rattle.krossvil.proofs.Outcomes.{fits}
 use Rattle.krossvil.proofs.TablePlaces.{table-fits}
 use Rattle.table.specs.Answer.{replyOf}
+use mathlib.Core.Bool.{false}
 use mathlib.Core.Path.{refl}
 use borrow.Author.Needs.{needs}
 use Rattle.krossvil.proofs.krossvil_check_table.Statement.{statement}
 use Rattle.krossvil.proofs.krossvil_check_table.Tie as tie
 
 code-requires : tie.Need-code-requires
-code-requires c κs = let f = fits replyOf _ _ (c .before .before .check .ensures) _ _ (c .before .number .ensures) (c .place .ensures) (table-fits _) in (f .number, f .place)
+code-requires c κs = let f = fits replyOf _ _ (c .before .before .check .ensures) _ _ (c .before .number .ensures) (c .place .ensures) (table-fits false _) in (f .number, f .place)
 
 returns : tie.Need-returns
 returns c = rw (c .code .ensures, c .before .before .number .ensures, c .before .place .ensures, c .before .before .before .check .ensures) refl

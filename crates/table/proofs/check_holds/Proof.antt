@@ -13,8 +13,8 @@ returns c =
     let found = c .before in
     stops _ (rw (found .before .before .before .pre .0 .hold) at (found .check-words .ensures)) (c .match .keys2)
 
-check-words-requires-2 : tie.Need-check-words-requires-2
-check-words-requires-2 c κs =
+check-sets-requires : tie.Need-check-sets-requires
+check-sets-requires c κs =
     let told = c .before .before in
     omega (arith, row-stands _ _ _ _ _ _ (let-pass (told .before .before .check-words .ensures) (told .before .match .keys1)) .fits)
 
@@ -25,7 +25,7 @@ returns-2 c =
     let told = limit .before .before in
     let places = told .before .before .before .before .before .pre .0 in
     let holds = rw (places .hold) at (told .before .before .check-words .ensures) in
-    let delayed = rw (places .delayed, limit .set-limit .ensures) at (c .before .check-words2 .ensures) in
+    let delayed = rw (places .hold, places .delayed, limit .set-limit .ensures) at (c .before .check-sets .ensures) in
     past holds (told .before .match .keys1) (stops _ delayed (c .match2 .keys2))
 
 returns-3 : tie.Need-returns-3
@@ -36,7 +36,7 @@ returns-3 c =
     let told = limit .before .before in
     let places = told .before .before .before .before .before .pre .0 in
     let holds = rw (places .hold) at (told .before .before .check-words .ensures) in
-    let delayed = rw (places .delayed, limit .set-limit .ensures) at (found .before .check-words2 .ensures) in
+    let delayed = rw (places .hold, places .delayed, limit .set-limit .ensures) at (found .before .check-sets .ensures) in
     let end = rw (places .end) at (c .or-else .ensures) in
     past holds (told .before .match .keys1) (past delayed (found .match2 .keys1) end)
 
@@ -44,4 +44,4 @@ pub check-holds-spec : {M : Type 1} → statement M
 check-holds-spec =
     tie.close
     (tie.spec (λ c. search needs) (λ c κs. search needs) (λ c. search needs) returns (λ c. search needs)
-    (λ c κs. search needs) check-words-requires-2 (λ c. search needs) returns-2 (λ c κs. search needs) returns-3)
+    (λ c κs. search needs) check-sets-requires (λ c. search needs) returns-2 (λ c κs. search needs) returns-3)

@@ -1,4 +1,5 @@
 -- What passed has room for every read, and the filled arrays make the table.
+use mathlib.Core.Bool.{false}
 use native.Mathlib.Omega.{arith}
 use Rattle.table.proofs.Stands.{TableStands, table-stands}
 use Rattle.table.proofs.Reading.{table-made}
@@ -7,10 +8,10 @@ use Rattle.table.proofs.read.Statement.{statement}
 use Rattle.table.proofs.read.Tie as tie
 
 counts-in-requires : tie.Need-counts-in-requires
-counts-in-requires c κs = omega (arith, table-stands _ (c .before .pre) .ends)
+counts-in-requires c κs = omega (arith, table-stands false _ (c .before .pre) .ends)
 
-stands : (c : tie.After-struct-known) → TableStands (c .before .before .before .args .s .now) (c .before .counts-in .result)
-stands c = rw (c .before .counts-in .ensures) (table-stands _ (c .before .before .before .pre))
+stands : (c : tie.After-struct-known) → TableStands false (c .before .before .before .args .s .now) (c .before .counts-in .result)
+stands c = rw (c .before .counts-in .ensures) (table-stands false _ (c .before .before .before .pre))
 
 places-of-requires : tie.Need-places-of-requires
 places-of-requires c κs = let fit = stands c .counts in search needs

@@ -1,0 +1,268 @@
+-- The theorems about the converter, as specs/Conversions states them.
+use mathlib.Core.Path.{_≡_, refl, sym, ap, _∙_}
+use mathlib.Core.List.{List, [], _∷_, _++_, append-assoc}
+use mathlib.Core.Bool.{Bool, true, false, _&&_, not}
+use Prim.Native.Nat.{ℕ, zero, suc, _+_, _*_, _/_, _%_, _^_, _<_, _≤_}
+use native.Mathlib.Omega.{arith}
+use borrow.Author.Tests.{eqb-true, le-ltb, ltb-false}
+use lib.ListN.{length, getD, take, drop, length-append}
+use lib.Seq.{take-at, length-take-le}
+use Rattle.wire.specs.Choice.{_<?_, _=?_, if_then_else_}
+use Rattle.wire.specs.Encode.{bytes32, field}
+use Rattle.wire.specs.Made.{made, answerIn, bufferIn}
+use Rattle.wire.proofs.Apart.{apart}
+use Rattle.wire.proofs.Choice.{never}
+use Rattle.sets.proofs.Members.{member-below, below-limit}
+use Rattle.table.specs.declared.Answer.the-variants.{Passes}
+use Rattle.table.specs.declared.Table.{Table}
+use Rattle.table.specs.Entries.{values, filled, zeros}
+use Rattle.table.specs.Table.{holdOf, delayedOf, delays, Uses, WellFormedBy, WellFormed}
+use Rattle.table.specs.Check.{wordEntry, countsIn, holdField, delayedField, oldAnswer, tableAnswer, tableOf, tableIn}
+use Rattle.table.specs.Encode.{encode, words}
+use Rattle.table.proofs.Answers.{decided}
+use Rattle.table.proofs.Stands.{table-stands}
+use Rattle.table.proofs.Under.{under-passes}
+use Rattle.table.proofs.Values.{length-values, getD-filled, filled-uses}
+use Rattle.table.proofs.WellFormed.{well-formed-by, well-formed}
+use Rattle.table.proofs.Words.{length-words}
+use Rattle.convert.specs.declared.Answer.the-variants.{Converted, TableRefused, BufferTooShort}
+use Rattle.convert.specs.Convert.{newSet, change, withSets, emptied, total, byState, newBytes, changes, madeOf}
+use Rattle.convert.proofs.Converting.{new-length}
+use Rattle.records.specs.Form as form
+use Rattle.journal.specs.Check as journal
+use Rattle.journal.specs.Check.{checkOf}
+use Rattle.reaction.specs.Reaction.{reactionOf, reactOf}
+use Rattle.runtime.specs.Run as run
+use Rattle.runtime.specs.Run.{madeUnder, runOf}
+use Rattle.laws.specs.Conversions.{answerFor, newTable, ConvertsFaithfully, PassingComesBack, ConvertsOnce}
+use Rattle.laws.proofs.Rows.{front, same-array}
+use Rattle.laws.proofs.Encoding.{passes-encodes, encoding-passes}
+use Rattle.laws.proofs.Emptied.{set-is, answers-same, run-same, reactions-same}
+
+-- ---- The emptied table is well formed
+
+new-below : (hold set limit : ℕ) → set < limit → newSet hold set < limit
+new-below hold set limit low = go (hold =? 0)
+  where
+    go : (b : Bool) → (if b then 0 else set) < limit
+    go true = omega arith
+    go false = low
+
+-- Only the sets are other ones.
+with-sets : {old other : Bool} (t : Table) → WellFormedBy old t → (sets : List ℕ) →
+    ((q i : ℕ) → q < t .states → delays (withSets t sets) q i ≡ true → i < t .inputs) →
+    (other ≡ false → (q : ℕ) → q < t .states → holdOf t q ≡ 0 → delayedOf (withSets t sets) q ≡ 0) →
+    Uses (t .states) 32 sets → WellFormedBy other (withSets t sets)
+with-sets t ok sets delayed not-idle uses = record {
+  states = ok .states;
+  inputs = ok .inputs;
+  outputs = ok .outputs;
+  initial = ok .initial;
+  bound = ok .bound;
+  output = ok .output;
+  next = ok .next;
+  hold = ok .hold;
+  delayed = delayed;
+  not-idle = not-idle;
+  output-uses = ok .output-uses;
+  next-uses = ok .next-uses;
+  hold-uses = ok .hold-uses;
+  delayed-uses = uses;
+}
+
+module _ (t : Table) (ok : WellFormedBy true t) where
+  abbrev few : t .states ≤ 32
+  few = ok .states .1
+
+  emptied-set : (q : ℕ) → delayedOf (emptied t) q ≡ newSet (holdOf t q) (delayedOf t q)
+  emptied-set = set-is t few (ok .delayed-uses)
+
+  emptied-below : (q : ℕ) → q < t .states → delayedOf (emptied t) q < 2 ^ t .inputs
+  emptied-below q h = rw (emptied-set q) (new-below (holdOf t q) (delayedOf t q) (2 ^ t .inputs) (below-limit _ (t .inputs) (λ i. ok .delayed q i h)))
+
+  emptied-idle : (q : ℕ) → holdOf t q ≡ 0 → delayedOf (emptied t) q ≡ 0
+  emptied-idle q none = rw (emptied-set q, none) refl
+
+  emptied-well : WellFormed (emptied t)
+  unfolding emptied
+  emptied-well =
+      with-sets t ok _ (λ q i h m. member-below _ (t .inputs) i (emptied-below q h) m) (λ new q h none. emptied-idle q none)
+      (filled-uses (λ q. newSet (holdOf t q) (delayedOf t q)) (t .states) 32 few)
+
+-- ---- The bytes are its encoding
+
+values-same : (f g : ℕ → ℕ) (n : ℕ) → ((k : ℕ) → k < n → f k ≡ g k) → values f n ≡ values g n
+unfolding values
+values-same f g zero same = refl
+values-same f g (suc n) same = rw (values-same f g n (λ k h. same k (omega arith)), same n (omega arith)) refl
+
+-- Up to its entries the last field stays, since it is as long as before.
+last-field : (s a : List ℕ) (tag at : ℕ) (v w : List ℕ) → s ≡ a ++ field tag v → at + 3 + length v ≡ length s → length w ≡ length v →
+    take (at + 3) s ++ w ≡ a ++ field tag w
+unfolding field
+last-field s a tag at v w is long same =
+    let head = tag ∷ length v / 256 ∷ length v % 256 ∷ [] in
+    let sized = ap length is ∙ length-append a (head ++ v) in
+    let before : length (a ++ head) ≡ at + 3 = length-append a head ∙ omega arith in
+    let cut : take (at + 3) s ≡ a ++ head = ap (take (at + 3)) (is ∙ sym (append-assoc a head v)) ∙ take-at (a ++ head) v (at + 3) before in
+    rw (cut, same) (append-assoc a head w)
+
+abbrev before06 : Table → List ℕ
+before06 t =
+    field 0x01 (t .states ∷ t .inputs ∷ t .outputs ∷ t .initial ∷ [])
+    ++ field 0x02 (bytes32 (t .bound))
+    ++ field 0x03 (take (t .states) (t .output))
+    ++ field 0x04 (take (t .states * t .inputs) (t .next))
+    ++ field 0x05 (words (take (t .states) (t .hold)))
+
+module _ (s : List ℕ) (passes : oldAnswer s ≡ Passes) where
+  abbrev table : Table
+  table = tableIn s
+
+  abbrev states : ℕ
+  states = countsIn s .states
+
+  well : WellFormedBy true table
+  well = well-formed-by true s passes
+
+  abbrev sets : List ℕ
+  sets = values (byState newSet s (holdField (countsIn s)) (delayedField (countsIn s))) states
+
+  sets-same : sets ≡ take states (emptied table .delayed)
+  unfolding emptied tableOf
+  sets-same =
+      let read : (entry : ℕ → ℕ) (q : ℕ) → q < states → entry q ≡ getD (filled entry states (zeros 32)) q 0 =
+      λ entry q h. sym (getD-filled entry states 32 (well .states .1) q h)
+      in
+      values-same _ (λ q. newSet (holdOf table q) (delayedOf table q)) states (λ q h. rw (
+        read (wordEntry s (holdField (countsIn s))) q h,
+        read (wordEntry s (delayedField (countsIn s))) q h,
+      ) refl)
+      ∙ sym (front (λ q. newSet (holdOf table q) (delayedOf table q)) states 32)
+
+  new-encodes : s ≡ encode table → newBytes (countsIn s) s ≡ encode (emptied table)
+  unfolding newBytes encode emptied tableOf
+  new-encodes is =
+      let old = words (take states (table .delayed)) in
+      let room : states ≤ length (table .delayed) = rw (well .delayed-uses .places) (well .states .1) in
+      let old-long : length old ≡ 4 * states = length-words _ ∙ ap (λ n. 4 * n) (length-take-le states (table .delayed) room) in
+      let new-long : length (words sets) ≡ 4 * states = length-words _ ∙ ap (λ n. 4 * n) (length-values _ states) in
+      last-field s (before06 table) 0x06 (delayedField (countsIn s)) old (words sets) is
+      (omega (arith, old-long, table-stands true s passes .ends)) (new-long ∙ sym old-long)
+      ∙ ap (λ v. before06 table ++ field 0x06 (words v)) sets-same
+
+-- ---- What the entry does with it
+
+made-of : (s : List ℕ) → oldAnswer s ≡ Passes → madeOf s ≡ made (Converted (changes (countsIn s) s)) (newBytes (countsIn s) s)
+unfolding madeOf
+made-of s passes = rw passes refl
+
+-- A success comes only so.
+succeeded : (s buffer : List ℕ) (n : ℕ) → answerFor s buffer ≡ Converted n → (oldAnswer s ≡ Passes) × (length s ≤ length buffer)
+unfolding madeOf answerIn
+succeeded s buffer n e = decided (oldAnswer s) (λ passes. (passes, roomy passes (rw passes at e))) (λ r other. let f : TableRefused (oldAnswer s) ≡ Converted n = rw r at e in apart cc)
+  where
+    roomy : oldAnswer s ≡ Passes → answerIn BufferTooShort (made (Converted (changes (countsIn s) s)) (newBytes (countsIn s) s)) (length buffer) ≡ Converted n →
+        length s ≤ length buffer
+    roomy passes f = go (length buffer <? length (newBytes (countsIn s) s)) refl f
+      where
+        go : (b : Bool) → (length buffer <? length (newBytes (countsIn s) s)) ≡ b →
+            (if b then BufferTooShort else Converted (changes (countsIn s) s)) ≡ Converted n → length s ≤ length buffer
+        go true is g = apart cc
+        go false is g = omega (arith, ltb-false (length buffer) (length (newBytes (countsIn s) s)) is, new-length s buffer passes)
+
+module _ (s buffer : List ℕ) (passes : oldAnswer s ≡ Passes) (room : length s ≤ length buffer) where
+  enough : (length buffer <? length (newBytes (countsIn s) s)) ≡ false
+  enough = le-ltb (length buffer) (length (newBytes (countsIn s) s)) (rw (new-length s buffer passes) room)
+
+  answers : answerFor s buffer ≡ Converted (changes (countsIn s) s)
+  unfolding answerIn
+  answers = rw (made-of s passes, enough) refl
+
+  writes-new : newTable s buffer ≡ newBytes (countsIn s) s
+  unfolding bufferIn
+  writes-new =
+      rw (made-of s passes, enough)
+      (take-at (newBytes (countsIn s) s) (drop (length (newBytes (countsIn s) s)) buffer) (length s) (new-length s buffer passes))
+
+pub converts-faithfully : ConvertsFaithfully
+unfolding checkOf runOf reactOf
+converts-faithfully old buffer changed c =
+    let done = succeeded old buffer changed (c .succeeds) in
+    let passes = done .0 in
+    let t = tableIn old in
+    let ok = well-formed-by true old passes in
+    let is = writes-new old buffer passes (done .1) ∙ new-encodes old passes (passes-encodes true old (c .bytes) passes) in
+    let new = encoding-passes false (emptied t) (emptied-well t ok) in
+    let now : tableAnswer (newTable old buffer) ≡ Passes = ap tableAnswer is ∙ new .0 in
+    let read : tableIn (newTable old buffer) ≡ emptied t = ap tableIn is ∙ new .1 in
+    let few = ok .states .1 in
+    let uses = ok .delayed-uses in (
+      (is, now),
+      λ s. under-passes _ _ (newTable old buffer) now ∙ ap (λ x. journal.answerIn form.journal x s) read ∙ answers-same t few uses form.journal s,
+      λ s. under-passes _ _ (newTable old buffer) now ∙ ap (λ x. madeUnder x s) read ∙ ap run.madeOf (run-same t few uses form.stimulus s),
+      λ P A. under-passes _ _ (newTable old buffer) now ∙ ap (λ x. reactionOf x P A) read ∙ reactions-same t few uses P A,
+    )
+
+-- ---- A table that passes
+
+total-none : (f : ℕ → ℕ) (n : ℕ) → ((k : ℕ) → k < n → f k ≡ 0) → total f n ≡ 0
+unfolding total
+total-none f zero none = refl
+total-none f (suc n) none = rw (total-none f n (λ k h. none k (omega arith)), none n (omega arith)) refl
+
+-- Where no set is idle, none changes.
+kept-set : (hold set : ℕ) → (hold ≡ 0 → set ≡ 0) → (newSet hold set ≡ set) × (change hold set ≡ 0)
+kept-set hold set idle = go (hold =? 0) refl
+  where
+    go : (b : Bool) → (hold =? 0) ≡ b → ((if b then 0 else set) ≡ set) × (_≡_ {A = ℕ} (if b && not (set =? 0) then 1 else 0) 0)
+    go true e = rw (idle (eqb-true hold 0 e)) (refl, refl)
+    go false e = (refl, refl)
+
+emptied-same : (t : Table) → WellFormed t → emptied t ≡ t
+unfolding emptied
+emptied-same t ok =
+    let new : ℕ → ℕ = λ q. newSet (holdOf t q) (delayedOf t q) in
+    let few = ok .states .1 in
+    let each : (q : ℕ) → q < t .states → getD (filled new (t .states) (zeros 32)) q 0 ≡ delayedOf t q =
+    λ q h. getD-filled new (t .states) 32 few q h ∙ kept-set (holdOf t q) (delayedOf t q) (ok .not-idle refl q h) .0
+    in
+    rw (same-array (t .states) 32 _ (t .delayed) (filled-uses new (t .states) 32 few) (ok .delayed-uses) each) refl
+
+old-well : (t : Table) → WellFormed t → WellFormedBy true t
+old-well t ok = with-sets t ok (t .delayed) (ok .delayed) (λ new. absurd (never (sym new))) (ok .delayed-uses)
+
+module _ (s : List ℕ) (t : Table) (ok : WellFormed t) (is : s ≡ encode t) where
+  read-it : (oldAnswer s ≡ Passes) × (tableIn s ≡ t)
+  read-it = rw is (encoding-passes true t (old-well t ok))
+
+  no-changes : changes (countsIn s) s ≡ 0
+  unfolding changes tableOf
+  no-changes =
+      let c = countsIn s in
+      let ok′ : WellFormed (tableIn s) = rw (read-it .1) ok in
+      let few = ok′ .states .1 in
+      total-none _ (c .states) (λ q h. kept-set _ _ (λ none.
+      sym (getD-filled (wordEntry s (delayedField c)) (c .states) 32 few q h)
+      ∙ ok′ .not-idle refl q h (getD-filled (wordEntry s (holdField c)) (c .states) 32 few q h ∙ none)) .1)
+
+  comes-back : (buffer : List ℕ) → length s ≤ length buffer → (answerFor s buffer ≡ Converted 0) × (newTable s buffer ≡ s)
+  comes-back buffer room =
+      let passes = read-it .0 in
+      let same = read-it .1 in
+      let encoded : s ≡ encode (tableIn s) = is ∙ ap encode (sym same) in
+      let emptied-is : emptied (tableIn s) ≡ tableIn s = rw same (emptied-same t ok) in (
+        answers s buffer passes room ∙ ap Converted no-changes,
+        writes-new s buffer passes room ∙ new-encodes s passes encoded ∙ ap encode emptied-is ∙ sym encoded,
+      )
+
+pub passing-comes-back : PassingComesBack
+passing-comes-back s buffer bytes passes = comes-back s (tableIn s) (well-formed s passes) (passes-encodes false s bytes passes) buffer
+
+pub converts-once : ConvertsOnce
+converts-once old buffer again changed c room =
+    let done = succeeded old buffer changed (c .succeeds) in
+    let passes = done .0 in
+    let new = converts-faithfully old buffer changed c .0 in
+    let long : length (newTable old buffer) ≡ length old = ap length (writes-new old buffer passes (done .1)) ∙ new-length old buffer passes in
+    comes-back (newTable old buffer) (emptied (tableIn old)) (emptied-well (tableIn old) (well-formed-by true old passes)) (new .0) again (omega (arith, long))

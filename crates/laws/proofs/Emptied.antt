@@ -1,0 +1,177 @@
+-- A table whose idle sets are emptied judges everything as the table does.
+use mathlib.Core.Path.{_≡_, refl, sym, ap, _∙_, fun-ext}
+use mathlib.Core.List.{List, [], _∷_}
+use mathlib.Core.Bool.{Bool, true, false, not}
+use Prim.Native.Nat.{ℕ, zero, suc, _+_, _≤_, max}
+use native.Mathlib.Omega.{arith}
+use borrow.Author.Tests.{ltb-true, ltb-false, ne-eqb}
+use lib.ListN.{length}
+use Rattle.wire.specs.Choice.{_<?_, _=?_, _and_, if_then_else_}
+use Rattle.sets.specs.Sets.{member, some, largest}
+use Rattle.table.specs.declared.Table.{Table}
+use Rattle.table.specs.Table.{holdOf, delayedOf, Uses}
+use Rattle.table.proofs.Values.{getD-filled, filled-uses}
+use Rattle.records.specs.declared.Record.{Record}
+use Rattle.records.specs.declared.Record.the-variants.{Change, Poll, Test, Tick, End}
+use Rattle.records.specs.declared.Opening.{Opening}
+use Rattle.records.specs.declared.Opening.the-variants as opening
+use Rattle.records.specs.Form.{Form}
+use Rattle.records.specs.Record.{timeOf, isTest}
+use Rattle.records.specs.Reading.{Items, item, done, broken, openingOf, itemsOf}
+use Rattle.machine.specs.declared.Machine.{Machine}
+use Rattle.machine.specs.Verdict.{ruleBy, verdictBy, leftBy}
+use Rattle.machine.specs.declared.Gate.{Gate}
+use Rattle.machine.specs.declared.Gate.the-variants.{Open, Shut}
+use Rattle.machine.specs.Machine.{start, kindOf, rule, verdict, left, stateAfter, agrees, after, gate, through, step}
+use Rattle.machine.specs.Most.{most}
+use Rattle.machine.specs.Run.{mostLeft}
+use Rattle.machine.specs.Walk.{Run, ran, tooLong, refused, inTable, filled, completed, onwards, walk, ranFrom, recordsRun, opened, runOver}
+use Rattle.journal.specs.Check.{answerOf, answerIn}
+use Rattle.reaction.specs.Reaction.{nextSet, weightOf, weight, reactionTime, firstLeaving, reactionOf}
+use Rattle.convert.specs.Convert.{newSet, emptied}
+
+-- ---- One state
+
+new-none : (hold : ℕ) → newSet hold 0 ≡ 0
+new-none hold = go (hold =? 0)
+  where
+    go : (b : Bool) → _≡_ {A = ℕ} (if b then 0 else 0) 0
+    go true = refl
+    go false = refl
+
+has-hold : (hold set : ℕ) → newSet (suc hold) set ≡ set
+has-hold hold set = rw (ne-eqb (suc hold) 0 (λ e. omega arith)) refl
+
+-- Without a hold the set makes no difference to the rule.
+rule-new : (hold set polled entry time : ℕ) → ruleBy hold (newSet hold set) polled entry time ≡ ruleBy hold set polled entry time
+unfolding ruleBy
+rule-new zero set polled entry time = refl
+rule-new (suc hold) set polled entry time = ap (λ d. ruleBy (suc hold) d polled entry time) (has-hold hold set)
+
+module _ (t : Table) (few : t .states ≤ 32) (uses : Uses (t .states) 32 (t .delayed)) where
+  abbrev t′ : Table
+  t′ = emptied t
+
+  pub set-is : (q : ℕ) → delayedOf t′ q ≡ newSet (holdOf t q) (delayedOf t q)
+  unfolding emptied
+  set-is q = go (q <? t .states) refl
+    where
+      go : (b : Bool) → (q <? t .states) ≡ b → delayedOf t′ q ≡ newSet (holdOf t q) (delayedOf t q)
+      go true e = getD-filled (λ p. newSet (holdOf t p) (delayedOf t p)) (t .states) 32 few q (ltb-true q (t .states) e)
+      go false e =
+          let past = ltb-false q (t .states) e in
+          filled-uses (λ p. newSet (holdOf t p) (delayedOf t p)) (t .states) 32 few .rest q past
+          ∙ sym (ap (newSet (holdOf t q)) (uses .rest q past) ∙ new-none (holdOf t q))
+
+  -- ---- The machine
+
+  rule-same : (m : Machine) (time : ℕ) → rule t′ m time ≡ rule t m time
+  unfolding emptied
+  rule-same m time =
+      ap (λ d. ruleBy (holdOf t (m .state)) d (m .polled) (m .entry) time) (set-is (m .state))
+      ∙ rule-new (holdOf t (m .state)) (delayedOf t (m .state)) (m .polled) (m .entry) time
+
+  verdict-same : (m : Machine) (time : ℕ) → verdict t′ m time ≡ verdict t m time
+  unfolding verdict
+  verdict-same m time = ap verdictBy (rule-same m time)
+
+  left-same : (m : Machine) (time : ℕ) → left t′ m time ≡ left t m time
+  unfolding left emptied
+  left-same m time = ap (leftBy (holdOf t (m .state)) (m .entry) time) (rule-same m time)
+
+  state-same : (m : Machine) → stateAfter t′ m ≡ stateAfter t m
+  unfolding stateAfter emptied
+  state-same m = refl
+
+  after-same : (m : Machine) (r : Record) → after t′ m r ≡ after t m r
+  after-same m (Change time input) = refl
+  after-same m (Poll time input) = refl
+  after-same m (Test time v) = rw (verdict-same m time) refl
+  after-same m (Tick time q) = rw (state-same m) refl
+  after-same m (End time) = refl
+
+  agrees-same : (m : Machine) (r : Record) → agrees t′ m r ≡ agrees t m r
+  agrees-same m (Change time input) = refl
+  agrees-same m (Poll time input) = refl
+  agrees-same m (Test time v) = rw (verdict-same m time) refl
+  agrees-same m (Tick time q) = rw (state-same m) refl
+  agrees-same m (End time) = refl
+
+  through-same : (g : Gate) (m : Machine) (r : Record) → through g t′ m r ≡ through g t m r
+  through-same (Shut refusal) m r = refl
+  through-same Open m r = rw (agrees-same m r, after-same m r) refl
+
+  step-same : (m : Machine) (r : Record) → step t′ m r ≡ step t m r
+  unfolding step emptied
+  step-same m r = through-same (gate (t .bound) m (kindOf r) (timeOf r)) m r
+
+  filled-same : (m : Machine) (r : Record) → filled t′ m r ≡ filled t m r
+  unfolding filled
+  filled-same m (Change time input) = refl
+  filled-same m (Poll time input) = refl
+  filled-same m (Test time v) = rw (verdict-same m time) refl
+  filled-same m (Tick time q) = rw (state-same m) refl
+  filled-same m (End time) = refl
+
+  module _ (F : Form) where
+    completed-same : (m : Machine) (r : Record) → completed F t′ m r ≡ completed F t m r
+    completed-same m r = ap (λ x. if F .valued then r else x) (filled-same m r)
+
+    walk-same : (items : Items) (m : Machine) → walk F t′ m items ≡ walk F t m items
+    unfolding walk
+    walk-same (item place r rest) m =
+        let one = completed-same m r in
+        let stepped : step t′ m (completed F t′ m r) ≡ step t m (completed F t m r) = ap (step t′ m) one ∙ step-same m (completed F t m r) in
+        rw (stepped, one) (ap (onwards (step t m (completed F t m r)) place (completed F t m r)) (fun-ext (walk-same rest)))
+    walk-same done m = refl
+    walk-same (broken refusal place) m = refl
+
+    records-same : (s : List ℕ) (input : ℕ) → recordsRun F t′ s input ≡ recordsRun F t s input
+    unfolding recordsRun emptied
+    records-same s input = ap (ranFrom input) (walk-same (itemsOf F (inTable F t) s) (start (t .initial) input))
+
+    pub run-same : (s : List ℕ) → runOver F t′ s ≡ runOver F t s
+    unfolding runOver opened emptied
+    run-same s = ap (λ r. if F .most <? length s then tooLong else r) (go (openingOf F (t .inputs) s))
+      where
+        go : (o : Opening) → opened F t′ s o ≡ opened F t s o
+        go (opening.Refused refusal) = refl
+        go (opening.Input input) = records-same s input
+
+  most-same : (rs : List Record) (m : Machine) → mostLeft t′ m rs ≡ mostLeft t m rs
+  unfolding most
+  most-same [] m = refl
+  most-same (r ∷ rs) m =
+      ap (λ n. max (if isTest r then n else 0) (mostLeft t′ (after t′ m r) rs)) (left-same m _)
+      ∙ ap (max _) (ap (λ m′. mostLeft t′ m′ rs) (after-same m r) ∙ most-same rs (after t m r))
+
+  pub answers-same : (F : Form) (s : List ℕ) → answerIn F t′ s ≡ answerIn F t s
+  unfolding answerOf emptied
+  answers-same F s = ap (answerOf t′) (run-same F s) ∙ go (runOver F t s)
+    where
+      go : (r : Run) → answerOf t′ r ≡ answerOf t r
+      go (ran input taken last) = rw (most-same taken (start (t .initial) input)) refl
+      go tooLong = refl
+      go (refused refusal place) = refl
+
+  -- ---- The calculator
+
+  weight-same : (A p : ℕ) → weight t′ A p ≡ weight t A p
+  unfolding weightOf emptied
+  weight-same A p = ap by (set-is p) ∙ go (holdOf t p)
+    where
+      by : ℕ → ℕ
+      by set = weightOf (holdOf t p) (t .bound) (some (t .inputs) (λ a. member A a and member set a))
+
+      go : (hold : ℕ) → weightOf hold (t .bound) (some (t .inputs) (λ a. member A a and member (newSet hold (delayedOf t p)) a)) ≡
+          weightOf hold (t .bound) (some (t .inputs) (λ a. member A a and member (delayedOf t p) a))
+      go zero = refl
+      go (suc hold) = rw (has-hold hold (delayedOf t p)) refl
+
+  time-same : (P A : ℕ) → reactionTime t′ P A ≡ reactionTime t P A
+  unfolding reactionTime nextSet emptied
+  time-same P A = ap (λ w. t .bound + largest (t .states) (λ p. member P p and not (member (nextSet t P A) p)) w) (fun-ext (weight-same A))
+
+  pub reactions-same : (P A : ℕ) → reactionOf t′ P A ≡ reactionOf t P A
+  unfolding reactionOf firstLeaving nextSet emptied
+  reactions-same P A = rw (time-same P A) refl

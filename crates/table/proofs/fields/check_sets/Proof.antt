@@ -1,0 +1,37 @@
+-- The loop keeps `Checking`; each way out is one of its laws.
+use Prim.Native.Nat.{_-_, _*_}
+use Rattle.table.specs.Check.{setEntry}
+use Rattle.table.proofs.Answers.{refuses, let-pass}
+use Rattle.table.proofs.Rows.{Checking, no-field, none-checked, all-checked, bad-entry, good-entry}
+use borrow.Author.Needs.{needs}
+use Rattle.table.proofs.fields.check_sets.Statement.{statement}
+use Rattle.table.proofs.fields.check_sets.Tie as tie
+
+abbrev Inv-loop : tie.InvT-loop
+Inv-loop s holds at n limit old k₀ k = Checking s at 0x06 (4 * n) (setEntry old s holds at limit) n k
+
+abbrev μ-loop : tie.MeasureT-loop
+μ-loop s holds at n limit old k₀ k = n - k
+
+returns : tie.Need-returns Inv-loop μ-loop
+returns c = no-field _ _ _ _ _ _ _ (c .before .expect-field .ensures) (c .match .keys2)
+
+loop-holds : tie.Need-loop-holds Inv-loop μ-loop
+loop-holds c = none-checked _ _ _ _ _ _ _ (c .before .before .expect-field .ensures) (c .before .match .keys1)
+
+returns-2 : tie.Need-returns-2 Inv-loop μ-loop
+returns-2 c =
+    let set = c .before .check-set in
+    bad-entry (c .before .before .before .loop .inv) (c .before .before .loop-test .taken) _ (set .ensures) (refuses (set .result) (c .match2 .keys2))
+
+loop-again : tie.Need-loop-again Inv-loop μ-loop
+loop-again c =
+    let set = c .before .before in
+    good-entry (set .before .before .loop .inv) (set .before .loop-test .taken) (let-pass (set .check-set .ensures) (c .before .match2 .keys1))
+
+returns-3 : tie.Need-returns-3 Inv-loop μ-loop
+returns-3 c = all-checked (c .before .loop .inv) (search needs)
+
+pub check-sets-spec : {M : Type 1} → statement M
+check-sets-spec = tie.close
+    (tie.spec Inv-loop μ-loop (λ c. search needs) (λ c κs. search needs) (λ c. search needs) returns loop-holds (λ c. search needs) (λ c. search needs) (λ c. search needs) (λ c. search needs) (λ c. search needs) (λ c. search needs) (λ c κs. search needs) (λ c. search needs) returns-2 (λ c. search needs) (λ c. search needs) loop-again returns-3)

@@ -1,0 +1,62 @@
+/* An example host: converts a table that was made before there was refusal 11. It prints how many states have changed, or the
+ * refusal, and then writes nothing.
+ *
+ *   rt staticlib krossvil
+ *   gcc -O2 -Iinclude examples/convert.c target/staticlib/libkrossvil.a -o convert
+ *   ./convert examples/idle-sets/old-table.bin table.bin
+ */
+#include <stdio.h>
+#include "krossvil.h"
+
+/* A table has at most 1,338 bytes. */
+static uint8_t old_table[2048], new_table[2048];
+
+static int load(const char *path, uint8_t *bytes, size_t room, size_t *size)
+{
+    FILE *file = fopen(path, "rb");
+    if (!file) {
+        fprintf(stderr, "%s cannot be opened\n", path);
+        return 0;
+    }
+    *size = fread(bytes, 1, room, file);
+    fclose(file);
+    return 1;
+}
+
+static int store(const char *path, const uint8_t *bytes, size_t size)
+{
+    FILE *file = fopen(path, "wb");
+    if (!file) {
+        fprintf(stderr, "%s cannot be opened\n", path);
+        return 0;
+    }
+    size_t written = fwrite(bytes, 1, size, file);
+    if (fclose(file) != 0 || written != size) {
+        fprintf(stderr, "%s cannot be written\n", path);
+        return 0;
+    }
+    return 1;
+}
+
+int main(int count, char **words)
+{
+    size_t size;
+    uint8_t answer[KROSSVIL_CONVERT_ANSWER];
+
+    if (count != 3) {
+        fprintf(stderr, "usage: convert OLD NEW\n");
+        return 2;
+    }
+    if (!load(words[1], old_table, sizeof old_table, &size))
+        return 2;
+
+    uint64_t code = krossvil_convert_table(old_table, size, new_table, sizeof new_table, answer, sizeof answer);
+    if (code != 0) {
+        printf("refused %u at %u\n", krossvil_number(code), krossvil_place(code));
+        return 1;
+    }
+    if (!store(words[2], new_table, size)) /* as many bytes as the old one */
+        return 2;
+    printf("changed=%u\n", krossvil_read(answer, 0));
+    return 0;
+}
