@@ -8,7 +8,7 @@
 #include <stdio.h>
 #include "krossvil.h"
 
-/* A table has at most 1,338 bytes. */
+/* An old table has at most 1,338 bytes. */
 static uint8_t old_table[2048], new_table[2048];
 
 static int load(const char *path, uint8_t *bytes, size_t room, size_t *size)

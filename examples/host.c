@@ -7,7 +7,7 @@
 #include <stdio.h>
 #include "krossvil.h"
 
-/* A table has at most 1,338 bytes; one byte more than the longest stimulus lets a file that is too long be turned down as such. */
+/* A table has at most 1,626 bytes; one byte more than the longest stimulus lets a file that is too long be turned down as such. */
 static uint8_t table[2048], stimulus[KROSSVIL_STIMULUS_MAX + 1], journal[KROSSVIL_JOURNAL_MAX];
 
 static int load(const char *path, uint8_t *bytes, size_t room, size_t *size)

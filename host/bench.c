@@ -12,7 +12,7 @@
 #include <string.h>
 #include <time.h>
 
-enum { ROUNDS = 61, ROTATION = 16, ROUND_NS = 400000, TABLE_ROOM = 1338 };
+enum { ROUNDS = 61, ROTATION = 16, ROUND_NS = 400000, TABLE_ROOM = 1626 };
 
 /* ---- chance ---- */
 
@@ -54,8 +54,38 @@ static void head(uint8_t *bytes, size_t *len, unsigned tag, size_t length)
     add(bytes, len, (unsigned)length);
 }
 
-/* A table of random next states, in which every second state has a hold and delays some inputs. */
-static void make_table(struct input *in, uint32_t states, uint32_t count, uint32_t bound)
+/* A set of some of the first `count`, or of the first 31. */
+static uint32_t some_of(uint32_t count)
+{
+    return below(1u << (count < 31 ? count : 31));
+}
+
+/* Every second state has a hold and delays some inputs. */
+static void add_holds(uint8_t *b, size_t *n, uint32_t states, uint32_t count, uint32_t bound)
+{
+    head(b, n, 5, 4 * states);
+    for (uint32_t q = 0; q < states; q++)
+        add4(b, n, q % 2 * (1 + below(4 * bound)));
+    head(b, n, 6, 4 * states);
+    for (uint32_t q = 0; q < states; q++)
+        add4(b, n, q % 2 * some_of(count));
+}
+
+/* Each timer has some states for its region and delays some inputs in every state. */
+static void add_timers(uint8_t *b, size_t *n, uint32_t states, uint32_t count, uint32_t bound, uint32_t timers)
+{
+    head(b, n, 7, 8 * timers);
+    for (uint32_t k = 0; k < timers; k++) {
+        add4(b, n, 1 + below(4 * bound));
+        add4(b, n, some_of(states));
+    }
+    head(b, n, 8, 4 * states * timers);
+    for (uint32_t k = 0; k < states * timers; k++)
+        add4(b, n, some_of(count));
+}
+
+/* A table of random next states, with so many timers or, for 0, with holds. */
+static void make_table(struct input *in, uint32_t states, uint32_t count, uint32_t bound, uint32_t timers)
 {
     uint8_t *b = in->table;
     size_t *n = &in->table_len;
@@ -73,12 +103,10 @@ static void make_table(struct input *in, uint32_t states, uint32_t count, uint32
     head(b, n, 4, states * count);
     for (uint32_t k = 0; k < states * count; k++)
         add(b, n, below(states));
-    head(b, n, 5, 4 * states);
-    for (uint32_t q = 0; q < states; q++)
-        add4(b, n, q % 2 * (1 + below(4 * bound)));
-    head(b, n, 6, 4 * states);
-    for (uint32_t q = 0; q < states; q++)
-        add4(b, n, q % 2 * below(1u << (count < 31 ? count : 31)));
+    if (timers > 0)
+        add_timers(b, n, states, count, bound, timers);
+    else
+        add_holds(b, n, states, count, bound);
     in->bound = bound;
     in->count_of_inputs = count;
     in->states = states == 32 ? UINT32_MAX : (1u << states) - 1;
@@ -271,17 +299,17 @@ static double report(const char *name, enum job job)
     return 0;
 }
 
-static void runs(enum job job, const char *job_name, bool irregular)
+static void runs(enum job job, const char *job_name, const char *kind, bool irregular, uint32_t timers)
 {
     static const size_t sizes[] = { 1024, 8192, 65536 };
     double cost[3];
     for (int s = 0; s < 3; s++) {
         char name[64];
         for (int k = 0; k < used(); k++) {
-            make_table(&inputs[k], irregular ? 8 : 2, irregular ? 8 : 2, irregular ? 60 : 6);
+            make_table(&inputs[k], irregular ? 8 : 2, irregular ? 8 : 2, irregular ? 60 : 6, timers);
             make_run(&inputs[k], irregular, sizes[s]);
         }
-        snprintf(name, sizeof name, "%s, %s, %zu KB", job_name, irregular ? "irregular" : "regular", sizes[s] / 1024);
+        snprintf(name, sizeof name, "%s, %s, %zu KB", job_name, kind, sizes[s] / 1024);
         cost[s] = report(name, job);
     }
     if (!counting)
@@ -292,7 +320,7 @@ static void tables(uint32_t states, uint32_t count_of_inputs)
 {
     char name[64];
     for (int k = 0; k < used(); k++)
-        make_table(&inputs[k], states, count_of_inputs, 60);
+        make_table(&inputs[k], states, count_of_inputs, 60, 0);
     snprintf(name, sizeof name, "table check, %u states, %u inputs", states, count_of_inputs);
     report(name, CHECK_TABLE);
     snprintf(name, sizeof name, "reaction, %u states, %u inputs", states, count_of_inputs);
@@ -305,11 +333,16 @@ int main(int argc, char **argv)
     if (!counting)
         printf("%-34s %7s %10s %8s %10s %8s   %s\n", "", "bytes", "library ns", "MB/s", "plain ns", "MB/s",
                "library / plain C");
-    runs(CHECK_JOURNAL, "journal check", false);
-    runs(CHECK_JOURNAL, "journal check", true);
-    runs(RUN, "runtime", false);
-    runs(RUN, "runtime", true);
+    runs(CHECK_JOURNAL, "journal check", "regular", false, 0);
+    runs(CHECK_JOURNAL, "journal check", "irregular", true, 0);
+    runs(RUN, "runtime", "regular", false, 0);
+    runs(RUN, "runtime", "irregular", true, 0);
     tables(2, 2);
     tables(32, 32);
+    /* Irregular runs with timers. They come last, so that the lines above have the inputs that they had before. */
+    runs(CHECK_JOURNAL, "journal check", "1 timer", true, 1);
+    runs(CHECK_JOURNAL, "journal check", "4 timers", true, 4);
+    runs(RUN, "runtime", "1 timer", true, 1);
+    runs(RUN, "runtime", "4 timers", true, 4);
     return 0;
 }

@@ -169,10 +169,18 @@ static void damage_bytes(struct bytes *bytes, const size_t *starts, size_t count
 
 /* ---- tables ---- */
 
+/* In an old table a state of hold 0 may delay inputs too. */
+enum table_kind { HOLDS, OLD_HOLDS, TIMERS };
+
+/* One place more than a table can have, for a plan that is damaged. */
 struct plan {
     unsigned q, i, o, initial;
     uint32_t bound;
-    uint32_t output[33], next[33][33], hold[33], delayed[33];
+    uint32_t output[33], next[33][33];
+    uint32_t hold[33], delayed[33];
+    bool timed; /* timers in the place of holds */
+    unsigned timers;
+    uint32_t length[5], region[5], delays[33][5];
 };
 
 static unsigned draw_count(void)
@@ -187,16 +195,15 @@ static uint32_t draw_bound(void)
     return percent(45) ? corners[below(6)] : percent(70) ? between(1, 12) : between(1, 60000);
 }
 
-static uint32_t draw_hold(uint32_t bound)
+/* Of a hold or of a timer. */
+static uint32_t draw_length(uint32_t bound)
 {
-    if (percent(25))
-        return 0;
     if (percent(5))
         return 3600000 - below(2);
     if (percent(5))
-        return below(3600001);
-    uint32_t hold = percent(50) ? between(1, 3) * bound + below(3) : between(1, 6 * bound);
-    return hold > 3600000 ? 3600000 : hold;
+        return between(1, 3600000);
+    uint32_t length = percent(50) ? between(1, 3) * bound + below(3) : between(1, 6 * bound);
+    return length > 3600000 ? 3600000 : length;
 }
 
 static uint32_t draw_set(unsigned count)
@@ -220,8 +227,36 @@ static uint32_t beyond(uint32_t set, unsigned count)
     return set;
 }
 
-/* In an `old` one a state of hold 0 may delay inputs too. */
-static void draw_plan(struct plan *plan, bool old)
+static uint32_t draw_delayed(const struct plan *plan, bool dense)
+{
+    return dense && percent(70) ? low_bits(plan->i) : draw_set(plan->i);
+}
+
+static void draw_holds(struct plan *plan, bool old)
+{
+    bool dense = percent(50);
+    for (unsigned s = 0; s < plan->q; s++) {
+        plan->hold[s] = percent(25) ? 0 : draw_length(plan->bound);
+        if (plan->hold[s] > 0 || old)
+            plan->delayed[s] = draw_delayed(plan, dense);
+    }
+}
+
+/* A region may be empty, share states with others, and leave out states in which its timer delays inputs. */
+static void draw_timers(struct plan *plan)
+{
+    bool dense = percent(50);
+    plan->timed = true;
+    plan->timers = between(1, 4);
+    for (unsigned k = 0; k < plan->timers; k++) {
+        plan->length[k] = draw_length(plan->bound);
+        plan->region[k] = percent(50) ? (uint32_t)draw64() & low_bits(plan->q) : draw_set(plan->q);
+        for (unsigned s = 0; s < plan->q; s++)
+            plan->delays[s][k] = draw_delayed(plan, dense);
+    }
+}
+
+static void draw_plan(struct plan *plan, enum table_kind kind)
 {
     memset(plan, 0, sizeof *plan);
     plan->q = draw_count();
@@ -231,24 +266,59 @@ static void draw_plan(struct plan *plan, bool old)
     plan->bound = draw_bound();
     unsigned stay = below(3) * 30;                            /* percent of self-loops */
     unsigned span = percent(70) ? plan->q : 1 + below(plan->q); /* next states come from these */
-    bool dense = percent(50);
     for (unsigned s = 0; s < plan->q; s++) {
         plan->output[s] = percent(20) ? plan->o - 1 : below(plan->o);
         for (unsigned a = 0; a < plan->i; a++)
             plan->next[s][a] = percent(stay) ? s : percent(10) ? plan->q - 1 : below(span);
-        plan->hold[s] = draw_hold(plan->bound);
-        if (plan->hold[s] > 0 || old)
-            plan->delayed[s] = dense && percent(70) ? low_bits(plan->i) : draw_set(plan->i);
+    }
+    if (kind == TIMERS)
+        draw_timers(plan);
+    else
+        draw_holds(plan, kind == OLD_HOLDS);
+}
+
+static uint32_t draw_too_long(void)
+{
+    static const uint32_t lengths[] = { 3600001, 3600002, 0x00FFFFFF, 0x80000000u, 0xFFFFFFFFu, 0x0136EE80u };
+    return lengths[below(6)];
+}
+
+static void damage_holds(struct plan *plan)
+{
+    unsigned s = below(plan->q);
+    switch (below(3)) {
+    case 0: plan->hold[s] = draw_too_long(); break;
+    case 1: plan->delayed[s] = beyond(plan->delayed[s], plan->i); break;
+    case 2: /* inputs delayed with no hold, some of them unknown: 11, or 7 before it */
+        plan->hold[s] = 0;
+        plan->delayed[s] |= (uint32_t)1 << below(plan->i);
+        if (percent(30))
+            plan->delayed[s] = beyond(plan->delayed[s], plan->i);
+        break;
+    }
+}
+
+static void damage_timers(struct plan *plan)
+{
+    unsigned s = below(plan->q), k = below(plan->timers);
+    switch (below(4)) {
+    case 0: /* a wrong length, perhaps with a wrong region: 13, and then 12 */
+        plan->length[k] = percent(50) ? 0 : draw_too_long();
+        if (percent(40))
+            plan->region[k] = beyond(plan->region[k], plan->q);
+        break;
+    case 1: plan->region[k] = beyond(plan->region[k], plan->q); break;
+    case 2: plan->delays[s][k] = beyond(plan->delays[s][k], plan->i); break;
+    case 3: plan->timers = percent(50) ? 0 : 5; break;
     }
 }
 
 /* One entry out of range, or two. */
 static void damage_plan(struct plan *plan)
 {
-    static const uint32_t holds[] = { 3600001, 3600002, 0x00FFFFFF, 0x80000000u, 0xFFFFFFFFu, 0x0136EE80u };
     static const uint32_t bounds[] = { 0, 60001, 65536, 0x01000001u, 0xFFFFFFFFu };
     unsigned s = below(plan->q), a = below(plan->i);
-    switch (below(10)) {
+    switch (below(11)) {
     case 0: plan->q = percent(40) ? 0 : percent(70) ? 33 : between(33, 255); break;
     case 1: plan->i = percent(40) ? 0 : percent(70) ? 33 : between(33, 255); break;
     case 2: plan->o = percent(40) ? 0 : percent(70) ? 33 : between(33, 255); break;
@@ -256,15 +326,40 @@ static void damage_plan(struct plan *plan)
     case 4: plan->bound = bounds[below(5)]; break;
     case 5: plan->output[s] = percent(70) ? plan->o : 255; break;
     case 6: plan->next[s][a] = percent(70) ? plan->q : 255; break;
-    case 7: plan->hold[s] = holds[below(6)]; break;
-    case 8: plan->delayed[s] = beyond(plan->delayed[s], plan->i); break;
-    case 9: /* inputs delayed with no hold, some of them unknown: 11, or 7 before it */
-        plan->hold[s] = 0;
-        plan->delayed[s] |= (uint32_t)1 << a;
-        if (percent(30))
-            plan->delayed[s] = beyond(plan->delayed[s], plan->i);
+    default:
+        if (plan->timed)
+            damage_timers(plan);
+        else
+            damage_holds(plan);
         break;
     }
+}
+
+static void write_holds(const struct plan *plan, unsigned q, struct bytes *bytes, size_t *starts)
+{
+    starts[4] = bytes->len;
+    head(bytes, 0x05, 4 * (size_t)q);
+    for (unsigned s = 0; s < q; s++)
+        add4(bytes, plan->hold[s]);
+    starts[5] = bytes->len;
+    head(bytes, 0x06, 4 * (size_t)q);
+    for (unsigned s = 0; s < q; s++)
+        add4(bytes, plan->delayed[s]);
+}
+
+static void write_timers(const struct plan *plan, unsigned q, struct bytes *bytes, size_t *starts)
+{
+    starts[4] = bytes->len;
+    head(bytes, 0x07, 8 * (size_t)plan->timers);
+    for (unsigned k = 0; k < plan->timers; k++) {
+        add4(bytes, plan->length[k]);
+        add4(bytes, plan->region[k]);
+    }
+    starts[5] = bytes->len;
+    head(bytes, 0x08, 4 * (size_t)q * plan->timers);
+    for (unsigned s = 0; s < q; s++)
+        for (unsigned k = 0; k < plan->timers; k++)
+            add4(bytes, plan->delays[s][k]);
 }
 
 /* `starts` takes six places. A damaged count goes into field 01; the other fields keep the old size half the time. */
@@ -289,31 +384,39 @@ static void write_table(const struct plan *plan, unsigned q, unsigned i, struct 
     for (unsigned s = 0; s < q; s++)
         for (unsigned a = 0; a < i; a++)
             add(bytes, plan->next[s][a]);
-    starts[4] = bytes->len;
-    head(bytes, 0x05, 4 * (size_t)q);
-    for (unsigned s = 0; s < q; s++)
-        add4(bytes, plan->hold[s]);
-    starts[5] = bytes->len;
-    head(bytes, 0x06, 4 * (size_t)q);
-    for (unsigned s = 0; s < q; s++)
-        add4(bytes, plan->delayed[s]);
+    if (plan->timed)
+        write_timers(plan, q, bytes, starts);
+    else
+        write_holds(plan, q, bytes, starts);
 }
 
-static void draw_table(struct plan *plan, struct bytes *bytes, bool old, bool damaged)
+/* Gives one of the last two fields, or both, the tag of the other kind of table. */
+static void mix_kinds(struct bytes *bytes, const size_t *starts)
+{
+    uint32_t fields = between(1, 3);
+    if (fields & 1)
+        bytes->at[starts[4]] ^= 0x05 ^ 0x07;
+    if (fields & 2)
+        bytes->at[starts[5]] ^= 0x06 ^ 0x08;
+}
+
+static void draw_table(struct plan *plan, struct bytes *bytes, enum table_kind kind, bool damaged)
 {
     size_t starts[6];
-    draw_plan(plan, old);
+    draw_plan(plan, kind);
     struct plan written = *plan;
     if (damaged && percent(60)) {
         damage_plan(&written); /* a second time only while the counts stand: it draws within them */
-        if (percent(25) && written.q == plan->q && written.i == plan->i)
+        if (percent(25) && written.q == plan->q && written.i == plan->i && written.timers == plan->timers)
             damage_plan(&written);
         damaged = percent(25);
     }
     bool follow = percent(50);
     write_table(&written, follow && written.q <= 33 ? written.q : plan->q,
                 follow && written.i <= 33 ? written.i : plan->i, bytes, starts);
-    if (damaged) {
+    if (damaged && percent(15)) {
+        mix_kinds(bytes, starts);
+    } else if (damaged) {
         if (percent(20)) { /* a field or more is missing */
             size_t from = starts[below(6)], to = starts[below(6)];
             if (from < to) {
@@ -333,7 +436,7 @@ struct piece {
     enum kind kind;
     uint32_t time, value;
     uint32_t latest;   /* when it was drawn: cycle start + E */
-    uint32_t hold_end; /* when it was drawn: entry + hold */
+    uint32_t hold_end; /* when it was drawn: the end of the hold, or of a timer */
 };
 
 static struct piece pieces[MOST_PIECES];
@@ -380,19 +483,51 @@ static uint32_t draw_time_near(uint32_t low, uint32_t high, uint32_t hold_end)
     return draw_time(low, high);
 }
 
-/* A stimulus that passes, of at most `limit` bytes, and of just that many if `limit` is reached. What the machine does
- * is followed here only to draw telling times. */
+/* Of the machine only what it takes to draw telling times. */
+struct machine {
+    unsigned state;
+    uint32_t entry, region_entry[4];
+};
+
+/* When the hold of the state ends, or some timer. */
+static uint32_t draw_hold_end(const struct plan *plan, const struct machine *m)
+{
+    unsigned k = below(plan->timers);
+    return plan->timed ? m->region_entry[k] + plan->length[k] : m->entry + plan->hold[m->state];
+}
+
+static bool holds(const struct plan *plan, const struct machine *m, unsigned polled, uint32_t time)
+{
+    unsigned s = m->state;
+    for (unsigned k = 0; k < plan->timers; k++)
+        if ((plan->region[k] >> s & 1) && (plan->delays[s][k] >> polled & 1) &&
+            time <= m->region_entry[k] + plan->length[k])
+            return true;
+    return plan->hold[s] > 0 && (plan->delayed[s] >> polled & 1) && time <= m->entry + plan->hold[s];
+}
+
+static void move(const struct plan *plan, struct machine *m, unsigned state, uint32_t time)
+{
+    for (unsigned k = 0; k < plan->timers; k++)
+        if ((plan->region[k] >> state & 1) && !(plan->region[k] >> m->state & 1))
+            m->region_entry[k] = time;
+    m->state = state;
+    m->entry = time;
+}
+
+/* A stimulus that passes, of at most `limit` bytes, and of just that many if `limit` is reached. */
 static void draw_stimulus(const struct plan *plan, unsigned cycles, size_t limit, unsigned changes)
 {
-    unsigned phase = 0, state = plan->initial, input = below(plan->i), polled = input;
-    uint32_t now = 0, last_change = 0, entry = 0, start = 0, ticks = 0;
+    struct machine m = { .state = plan->initial };
+    unsigned phase = 0, input = below(plan->i), polled = input;
+    uint32_t now = 0, last_change = 0, start = 0, ticks = 0;
     size_t room = limit - 4 - 7;
     bool lazy = percent(30); /* long cycles */
     pieces[0] = (struct piece){ .kind = OPENING, .value = input };
     piece_count = 1;
     unsigned stop_phase = below(4);
     for (;;) {
-        uint32_t high = start + plan->bound, hold_end = entry + plan->hold[state];
+        uint32_t high = start + plan->bound, hold_end = draw_hold_end(plan, &m);
         struct piece piece = { .latest = high, .hold_end = hold_end };
         if (room < 7 || piece_count + 2 >= MOST_PIECES || (ticks >= cycles && phase >= stop_phase))
             break;
@@ -424,18 +559,16 @@ static void draw_stimulus(const struct plan *plan, unsigned cycles, size_t limit
         } else if (phase == 1) {
             piece.kind = TEST;
             piece.time = draw_time_near(now, high, hold_end);
-            bool held = plan->hold[state] > 0 && (plan->delayed[state] >> polled & 1) && piece.time <= hold_end;
+            bool held = holds(plan, &m, polled, piece.time);
             piece.value = held ? 0 : 1;
             phase = held ? 2 : 3;
             room -= 7;
         } else {
             piece.kind = TICK;
             piece.time = lazy ? high : draw_time_near(now, high, hold_end);
-            if (phase == 3 && plan->next[state][polled] != state) {
-                state = plan->next[state][polled];
-                entry = piece.time;
-            }
-            piece.value = state;
+            if (phase == 3 && plan->next[m.state][polled] != m.state)
+                move(plan, &m, plan->next[m.state][polled], piece.time);
+            piece.value = m.state;
             start = piece.time;
             phase = 0;
             ticks++;
@@ -446,7 +579,7 @@ static void draw_stimulus(const struct plan *plan, unsigned cycles, size_t limit
     }
     uint32_t high = start + plan->bound;
     pieces[piece_count++] = (struct piece){
-        .kind = END, .time = draw_time(now, high), .latest = high, .hold_end = entry + plan->hold[state]
+        .kind = END, .time = draw_time(now, high), .latest = high, .hold_end = draw_hold_end(plan, &m)
     };
 }
 
@@ -877,6 +1010,14 @@ static void draw_input(const struct plan *plan, enum entry entry)
     }
 }
 
+static enum table_kind draw_kind(enum entry entry)
+{
+    bool converts = entry == CONVERT_TABLE;
+    if (percent(converts ? 10 : 33))
+        return TIMERS;
+    return percent(converts ? 70 : 3) ? OLD_HOLDS : HOLDS;
+}
+
 static void random_case(uint64_t seed, uint64_t number)
 {
     static struct plan plan;
@@ -892,8 +1033,8 @@ static void random_case(uint64_t seed, uint64_t number)
                  : lot < 74 ? RUN
                  : lot < 90 ? REACTION
                             : CONVERT_TABLE;
-    bool old = percent(call.entry == CONVERT_TABLE ? 70 : 3);
-    draw_table(&plan, &table, old, percent(call.entry == CHECK_TABLE ? 65 : call.entry == CONVERT_TABLE ? 35 : 8));
+    draw_table(&plan, &table, draw_kind(call.entry),
+               percent(call.entry == CHECK_TABLE ? 65 : call.entry == CONVERT_TABLE ? 35 : 10));
     input.len = 0;
     if (call.entry == CHECK_JOURNAL || call.entry == RUN)
         draw_input(&plan, call.entry);
@@ -931,6 +1072,19 @@ static struct plan classroom(void)
     return plan;
 }
 
+/* The hold of state 1 as a timer whose region is that state. */
+static struct plan classroom_with_timer(void)
+{
+    struct plan plan = classroom();
+    plan.timed = true;
+    plan.timers = 1;
+    plan.length[0] = plan.hold[1];
+    plan.region[0] = 2;
+    plan.delays[1][0] = plan.delayed[1];
+    plan.hold[1] = plan.delayed[1] = 0;
+    return plan;
+}
+
 /* A journal is written as kinds, with time and value for each: "I0 c1,1 p2,1 t2,1 k3,1 e12". */
 static void read_pieces(const char *text)
 {
@@ -962,7 +1116,8 @@ static void expect(bool right, const char *otherwise)
     }
 }
 
-static void paper_cases(void)
+/* The classroom's journals, under its table with the hold or with the timer. */
+static void journal_cases(const struct plan *plan)
 {
 #define RUN_TO_3 "I0 c1,1 p2,1 t2,1 k3,1 c3,0 p5,0 t5,0 k6,1 "
     static const struct {
@@ -981,20 +1136,11 @@ static void paper_cases(void)
         { "I0 c1,1 p1,1 e1", { REFUSED(27, 12) } },
         { "I0 p1,0 c1,1 e1", { 0, 1, 0, 0, 0, 0, 0, 0 } },
     };
-    static const struct {
-        uint32_t states, inputs;
-        uint64_t wanted[3];
-    } sets[] = {
-        { 3, 1, { 0, 14, 1 } },       { 3, 2, { 0, 6, 2 } }, { 2, 1, { REFUSED(10, 2) } },
-        { 2, 2, { 0, 3, 2 } },        { 0, 1, { 0, 3, 0 } }, { 4, 1, { REFUSED(9, 0) } },
-        { 3, 4, { REFUSED(9, 1) } },
-    };
-    struct plan plan = classroom();
-    size_t starts[6];
     struct call call = { .table = &table, .input = &input, .answer_len = 32 };
+    size_t starts[6];
     char label[64];
 
-    write_table(&plan, 2, 2, &table, starts);
+    write_table(plan, 2, 2, &table, starts);
     call.entry = CHECK_TABLE;
     compare("classroom table", &call, (const uint64_t[]){ 0 });
     for (size_t k = 0; k < sizeof journals / sizeof *journals; k++) {
@@ -1017,13 +1163,62 @@ static void paper_cases(void)
             call.output_len = 0;
         }
     }
-    call.entry = REACTION;
+}
+
+static void paper_cases(void)
+{
+    static const struct {
+        uint32_t states, inputs;
+        uint64_t wanted[3];
+    } sets[] = {
+        { 3, 1, { 0, 14, 1 } },       { 3, 2, { 0, 6, 2 } }, { 2, 1, { REFUSED(10, 2) } },
+        { 2, 2, { 0, 3, 2 } },        { 0, 1, { 0, 3, 0 } }, { 4, 1, { REFUSED(9, 0) } },
+        { 3, 4, { REFUSED(9, 1) } },
+    };
+    struct plan plan = classroom();
+    struct call call = { .entry = REACTION, .table = &table, .input = &input, .answer_len = 32 };
+    char label[64];
+
+    journal_cases(&plan);
     input.len = 0;
     for (size_t k = 0; k < sizeof sets / sizeof *sets; k++) {
         snprintf(label, sizeof label, "paper's sets %zu", k);
         call.states = sets[k].states;
         call.inputs = sets[k].inputs;
         compare(label, &call, sets[k].wanted);
+    }
+}
+
+/* The classroom's table with a timer, and one byte of it changed: field 07 is at 26, field 08 at 37. */
+static void timer_cases(void)
+{
+    static const struct {
+        size_t place;
+        uint8_t byte;
+        uint64_t wanted;
+    } changes[] = {
+        { 26, 0x09, REFUSED(2, 26) }, { 28, 7, REFUSED(2, 26) },  { 28, 0, REFUSED(2, 26) },  { 27, 1, REFUSED(1, 26) },
+        { 32, 0, REFUSED(13, 29) },   { 29, 1, REFUSED(13, 29) }, { 36, 4, REFUSED(12, 33) }, { 36, 0, 0 },
+        { 37, 0x06, REFUSED(2, 37) }, { 39, 4, REFUSED(2, 37) },  { 43, 4, REFUSED(12, 40) }, { 43, 3, 0 },
+        { 47, 4, REFUSED(12, 44) },   { 39, 9, REFUSED(1, 37) },  { 26, 0x05, REFUSED(2, 37) },
+    };
+    struct plan plan = classroom_with_timer();
+    struct call call = { .table = &table, .input = &input, .states = 4, .output_len = 48, .answer_len = 32 };
+    size_t starts[6];
+    char label[64];
+
+    journal_cases(&plan);
+    input.len = 0;
+    call.entry = REACTION;
+    compare("a reaction time with a timer", &call, (const uint64_t[]){ REFUSED(14, 0) });
+    call.entry = CONVERT_TABLE;
+    compare("a timer converted", &call, (const uint64_t[]){ REFUSED(2, 26) });
+    call.entry = CHECK_TABLE;
+    for (size_t k = 0; k < sizeof changes / sizeof *changes; k++) {
+        snprintf(label, sizeof label, "timer table, byte %zu is %u", changes[k].place, changes[k].byte);
+        write_table(&plan, 2, 2, &table, starts);
+        table.at[changes[k].place] = changes[k].byte;
+        compare(label, &call, &changes[k].wanted);
     }
 }
 
@@ -1053,12 +1248,12 @@ static bool can_give(enum entry entry, unsigned number)
 {
     if (number <= 8)
         return true; /* success and the table's */
-    if (number == 11)
+    if (number >= 11 && number <= 13)
         return entry != CONVERT_TABLE; /* it reads by the old rules */
     switch (entry) {
     case CHECK_JOURNAL: return (number >= 19 && number <= 28) || number == 30;
     case RUN: return (number >= 19 && number <= 27) || number == 30; /* 29 can't come within the stimulus's length */
-    case REACTION: return number == 9 || number == 10 || number == 30;
+    case REACTION: return number == 9 || number == 10 || number == 14 || number == 30;
     case CONVERT_TABLE: return number == 30;
     default: return false;
     }
@@ -1115,6 +1310,7 @@ int main(int argc, char **argv)
     }
     paper_cases();
     old_table_case();
+    timer_cases();
     uint64_t asserted = passed, wrong = mismatches;
     for (uint64_t number = 0; number < cases; number++)
         random_case(seed, number);

@@ -101,6 +101,28 @@ fresh
 cp "$root/examples/idle-sets/old-table.bin" table.bin
 prints 'an old table: state 0 has no hold and delays input 1' 'refused 11 at 40'
 
+# ---- Tables with timers
+
+fresh
+cp "$root/examples/classroom-timers/table.bin" .
+prints 'the classroom run, with a timer in place of the hold' 'accepted end=12 cycles=4 moves=2 state=0 output=0 left=4 longest=3'
+
+fresh
+cp "$root/examples/classroom-timers/table.bin" "$root/examples/changed-verdict/journal.bin" .
+prints 'the test at 8 with verdict 1, with a timer' 'refused 28 at 76'
+
+fresh
+cp "$root/examples/gas-burner/table.bin" "$root/examples/gas-burner/journal.bin" .
+prints 'the gas burner' 'accepted end=33 cycles=10 moves=5 state=1 output=0 left=8 longest=4'
+
+fresh
+head -c 89 "$root/examples/gas-burner/table.bin" >table.bin
+prints 'the gas burner without its last byte' 'refused 1 at 55'
+
+fresh
+{ cat "$root/examples/gas-burner/table.bin"; zeros 1; } >table.bin
+prints 'a byte after the gas burner' 'refused 8 at 90'
+
 # ---- Files that are missing, empty or no files
 
 fresh

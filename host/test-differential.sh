@@ -104,14 +104,18 @@ fi
 
 echo "== the example host"
 compile examples/host.c "${called[@]}" "${link[@]}" -o "$out/example" || stop "did not build"
-if "${run[@]}" "$out/example" examples/classroom/table.bin examples/classroom/stimulus.bin >"$out/example.log" &&
-    diff examples/classroom/host.txt "$out/example.log"; then
-    cat "$out/example.log"
-    passed=$((passed + 1))
-else
-    echo "the example host printed something else than examples/classroom/host.txt"
-    failed=$((failed + 1))
-fi
+hosts() { # FOLDER STATUS: on its table and stimulus the host prints its host.txt and ends with the status
+    "${run[@]}" "$out/example" "$1/table.bin" "$1/stimulus.bin" >"$out/example.log"
+    if [ "$?" -eq "$2" ] && diff "$1/host.txt" "$out/example.log"; then
+        cat "$out/example.log"
+        passed=$((passed + 1))
+    else
+        echo "the example host did not end with status $2, or printed something else than $1/host.txt"
+        failed=$((failed + 1))
+    fi
+}
+hosts examples/classroom 0
+hosts examples/gas-burner 1 # the calculator takes no timers
 
 echo "== the example converter"
 compile examples/convert.c "${called[@]}" "${link[@]}" -o "$out/convert" || stop "did not build"
@@ -129,6 +133,7 @@ converts() { # TABLE LINE NEW: converted in its place, it gives the line and the
 }
 converts examples/idle-sets/old-table.bin 'changed=1' examples/idle-sets/table.bin
 converts examples/idle-sets/table.bin 'changed=0' examples/idle-sets/table.bin
+converts examples/classroom-timers/table.bin 'refused 2 at 26' examples/classroom-timers/table.bin
 converts examples/classroom/journal.bin 'refused 2 at 0' examples/classroom/journal.bin
 
 if [ "$self" = no ]; then

@@ -19,12 +19,19 @@
  * Q, I and O are the counts of states, inputs and outputs; tags are in hexadecimal.
  *
  *   Table, exactly these fields in this order:
- *     01  4    Q, I, O (each 1..32), initial state (below Q)
- *     02  4    cycle bound E, 1..60,000
- *     03  Q    output of each state, below O
- *     04  Q*I  next state, rows by state, each below Q
- *     05  4*Q  hold of each state, 0..3,600,000
- *     06  4*Q  delayed inputs of each state: input i is 2^i; none where the hold is 0
+ *     01  4      Q, I, O (each 1..32), initial state (below Q)
+ *     02  4      cycle bound E, 1..60,000
+ *     03  Q      output of each state, below O
+ *     04  Q*I    next state, rows by state, each below Q
+ *   then, in a table with holds,
+ *     05  4*Q    hold of each state, 0..3,600,000
+ *     06  4*Q    delayed inputs of each state: input i is 2^i; none where the hold is 0
+ *   or, in a table with N timers, N from 1 to 4,
+ *     07  8*N    length of each timer, 1..3,600,000, and its region, a set of states: state q is 2^q
+ *     08  4*Q*N  inputs that each timer delays, rows by state: entry q*N + k is for state q and timer k
+ *
+ *   A hold starts when its state is entered. A timer starts when its region is entered from outside, or at 0 if the region has the
+ *   initial state; it runs on through moves inside the region, and delays no input outside it.
  *
  *   Journal, at most 65,536 bytes: field 10 first, field 1F last, the others between in any number. A time is four bytes,
  *   0..2,000,000,000, and stands first in its value.
@@ -37,18 +44,22 @@
  *
  *   Stimulus, at most 57,344 bytes: the same with tags 20 to 24 and 2F; fields 22, 23 and 24 have length 4, the time only.
  *
- * Refusals. A place is a byte offset, counted from 0, in the bytes that were turned down, save for 9 and 10.
- *      1  table runs out before field 06 is complete              start of the field
+ * Refusals. A place is a byte offset, counted from 0, in the bytes that were turned down, save for 9, 10 and 14.
+ *      1  table runs out before field 06, or 08, is complete      start of the field
  *      2  table field has the wrong tag or length                 start of the field
  *      3  a count or the initial state is out of range            start of the field
  *      4  E out of range                                          start of the field
  *      5  output or next state out of range                       first such entry
  *      6  hold too long                                           first such entry
  *      7  delayed set names an input at or above I                first such entry
- *      8  bytes after field 06                                    first of them
+ *      8  bytes after field 06, or 08                             first of them
  *      9  calculator: a set names a member that does not exist    0 states, 1 inputs
  *     10  calculator: some next(p, a) is outside the states       smallest p*I + a
  *     11  delayed set not empty on a state whose hold is 0        first such entry
+ *     12  region names a state at or above Q, or a timer's set
+ *         an input at or above I                                  first such entry
+ *     13  timer's length is 0 or too long                         first such entry
+ *     14  calculator: the table has timers                        0
  *     19  journal or stimulus too long                            0
  *     20  bytes run out before the end field is complete          start of the field
  *     21  unknown tag, or wrong length for the tag                start of the field
@@ -66,10 +77,11 @@
  *         converter: buffer shorter than the table;
  *         any function with an answer: it is too short            0
  *
- * The table's refusals, 1 to 8 and 11, come before all others: field by field, and in field 06 entry by entry, each for 7 and then
- * for 11; 8 is the last of them. Then, of a journal or a stimulus, 19, and field by field 20 to 28; of the calculator's sets, 9 for
- * the states, 9 for the inputs, 10. Then 29, then 30. The table check has no answer, and gives 1 to 8 and 11 only. The converter
- * does not give 11.
+ * The table's refusals, 1 to 8 and 11 to 13, come before all others: field by field; in field 06 entry by entry, each for 7 and
+ * then for 11; in field 07 timer by timer, each for 13 at its length and then for 12 at its region; 8 is the last of them. Then, of
+ * a journal or a stimulus, 19, and field by field 20 to 28; of the calculator, 14, 9 for the states, 9 for the inputs, 10. Then 29,
+ * then 30. The table check has no answer, and gives 1 to 8 and 11 to 13 only. The converter gives none of 11 to 14: it takes tables
+ * with holds only, and field 07 is 2 to it.
  */
 #ifndef KROSSVIL_H
 #define KROSSVIL_H
@@ -96,8 +108,8 @@ extern "C" {
 uint64_t krossvil_check_table(const uint8_t *table, size_t table_len);
 
 /* Is the journal a run of the table's machine? Answer, 28 bytes: T, the number of ticks, the number of moves (ticks that change the
- * state), the last state, its output, the most ticks that a held test had left until its hold was passed (0 if none was held), and
- * the longest completed cycle, from a tick or from 0 to the next tick (0 if there was none). */
+ * state), the last state, its output, the most ticks that a held test had left until its hold, or every timer that held it, was
+ * passed (0 if none was held), and the longest completed cycle, from a tick or from 0 to the next tick (0 if there was none). */
 uint64_t krossvil_check_journal(const uint8_t *table, size_t table_len, const uint8_t *journal, size_t journal_len,
                                 uint8_t *answer, size_t answer_len);
 
@@ -107,13 +119,15 @@ uint64_t krossvil_run(const uint8_t *table, size_t table_len, const uint8_t *sti
                       uint8_t *journal, size_t journal_len, uint8_t *answer, size_t answer_len);
 
 /* How long until the state is in the target, once it stays in `states` and the input in `inputs`? Sets are numbers, bit i for
- * member i; empty sets are allowed. Answer, 8 bytes: the reaction time in units of the table's times, the target set. */
+ * member i; empty sets are allowed. A table with timers is refused (14). Answer, 8 bytes: the reaction time in units of the table's
+ * times, the target set. */
 uint64_t krossvil_reaction(const uint8_t *table, size_t table_len, uint32_t states, uint32_t inputs,
                            uint8_t *answer, size_t answer_len);
 
-/* For a table that was made before there was 11. Write it at the start of `new_table`, with the delayed set emptied at each state
- * whose hold is 0, where it never had an effect: the new table has as many bytes, passes, and behaves the same in every journal and
- * every reaction time. The bytes past it are unchanged. Answer, 4 bytes: how many states had a set that was not empty and is now. */
+/* For a table with holds that was made before there was 11. Write it at the start of `new_table`, with the delayed set emptied at
+ * each state whose hold is 0, where it never had an effect: the new table has as many bytes, passes, and behaves the same in every
+ * journal and every reaction time. The bytes past it are unchanged. Answer, 4 bytes: how many states had a set that was not empty
+ * and is now. */
 uint64_t krossvil_convert_table(const uint8_t *table, size_t table_len, uint8_t *new_table, size_t new_table_len,
                                 uint8_t *answer, size_t answer_len);
 

@@ -1,4 +1,4 @@
-// The table check: docs/RULES.md, "Bytes", and refusals 1 to 8 and 11.
+// The table check: docs/RULES.md, "Bytes", and refusals 1 to 8 and 11 to 13.
 ghost use Prim.Native.Nat.{_<_};
 ghost use lib.ListN.{length};
 use crate::print;

@@ -15,7 +15,7 @@ use Rattle.table.specs.Entries.{values}
 use Rattle.table.specs.Encode.{words}
 use Rattle.table.specs.Check.{holdField, delayedField, countsIn, oldAnswer}
 use Rattle.table.proofs.Answers.{Refused, refuses}
-use Rattle.table.proofs.Stands.{TableStands, table-stands}
+use Rattle.table.proofs.Stands.{HoldsStand, old-stands}
 use Rattle.convert.specs.declared.Answer.{Answer}
 use Rattle.convert.specs.declared.Answer.the-variants.{Converted, TableRefused, BufferTooShort}
 use Rattle.convert.specs.Convert.{newSet, byState, newBytes, changes, madeOf}
@@ -30,8 +30,8 @@ module _ (s buffer : List ℕ) where
   table-refused a is h = let r = rw is at (refuses a h) in rw (r, is) (refl, refl)
 
   module _ (passes : oldAnswer s ≡ Passes) where
-    stands : TableStands true s (countsIn s)
-    stands = table-stands true s passes
+    stands : HoldsStand true s (countsIn s)
+    stands = old-stands s passes .1
 
     abbrev start : ℕ
     start = delayedField (countsIn s) + 3

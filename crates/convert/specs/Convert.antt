@@ -38,6 +38,9 @@ withSets t sets = record {
   next = t .next;
   hold = t .hold;
   delayed = sets;
+  timers = t .timers;
+  timing = t .timing;
+  sets = t .sets;
 }
 
 unfoldable pub emptied : Table → Table

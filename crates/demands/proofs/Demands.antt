@@ -3,7 +3,7 @@ use mathlib.Core.Path.{_≡_, refl, sym, _∙_}
 use mathlib.Core.List.{List, [], _∷_, _++_}
 use mathlib.Core.Bool.{Bool, true, false}
 use mathlib.Core.Logic.{_⊎_, inl, inr}
-use Prim.Native.Nat.{ℕ, _+_, _*_, _≤_}
+use Prim.Native.Nat.{ℕ, zero, suc, _+_, _*_, _≤_}
 use native.Mathlib.Omega.{arith}
 use borrow.Author.Tests.{lt-ltb}
 use lib.ListN.{length}
@@ -34,17 +34,19 @@ use Rattle.journal.specs.Check.{checkOf}
 use Rattle.reaction.specs.declared.Answer.the-variants.{Reacts}
 use Rattle.reaction.specs.Reaction.{weightOf, weight, reactOf}
 use Rattle.reaction.specs.Meaning.{Known, Slowest, Reaction}
-use Rattle.reaction.proofs.Entry.{entry-means}
+use Rattle.wire.proofs.Apart.{apart}
+use Rattle.machine.proofs.Watches.{no-regions}
+use Rattle.reaction.proofs.Entry.{entry-means, entry-refuses}
 use Rattle.runs.specs.Accepted as runs
 use Rattle.runs.specs.Reaction.{Weights}
 use Rattle.runs.specs.Slots as slots
 use Rattle.runs.proofs.Automaton.{machine-is-automaton}
-use Rattle.runs.proofs.Soon.{not-too-soon}
+use Rattle.runs.proofs.Soon.{not-too-soon, not-too-soon-by}
 use Rattle.runs.proofs.OneMove.{one-move}
 use Rattle.laws.specs.Journals.{JournalOf, AcceptedRun}
 use Rattle.laws.proofs.Tables.{holds-that-table}
 use Rattle.laws.proofs.Journals.{ends-at, left-end, under, accepts-exactly, checks-exactly}
-use Rattle.demands.specs.Demands.{Holds, HoldsRun, LeftTold, LongestTold, AcceptedIsRun, LeftIsMost, LongestIsCycle, AcceptedJournal, NotTooSoon, NotTooLate}
+use Rattle.demands.specs.Demands.{Holds, HoldsRun, LeftTold, LongestTold, AcceptedIsRun, LeftIsMost, LongestIsCycle, AcceptedJournal, NotTooSoon, NotTooSoonBy, NotTooLate}
 
 -- ---- Acceptance
 
@@ -118,7 +120,7 @@ module _ (table journal : List ℕ) (table-bytes : Bytes table) (bytes : Bytes j
     input = found .3 .input;
     records = all;
     holds = held;
-    run = machine-is-automaton (found .0) (found .3 .input) all (n .end) .0 (run-accepted (found .3));
+    run = machine-is-automaton (found .0) (found .1) (found .3 .input) all (n .end) .0 (run-accepted (found .3));
   }
 
   left-told : LeftTold table journal n
@@ -145,7 +147,7 @@ accepted-is-run table journal table-bytes bytes T = (
   λ r.
       let h = r .holds in
       let records = h .before-end ++ End T ∷ [] in
-      let a = machine-is-automaton (r .t) (r .input) records T .1 (rw (h .records-are) at (r .run)) in
+      let a = machine-is-automaton (r .t) (h .well-formed) (r .input) records T .1 (rw (h .records-are) at (r .run)) in
       let accepts = accepts-run (r .short) (h .journal-is) a in
       record {
         numbers = _;
@@ -173,12 +175,26 @@ module _ {table journal : List ℕ} {t : Table} {input : ℕ} {records : List Re
       let one = records-are-one form.journal (inTable form.journal t) (t .inputs) journal _ _ _ _ T _ (h .journal-is) (run .written) in
       rw (← one .0, ← one .1, a .end-is, ← h .records-are) at (run-accepted run)
 
+  -- Where there are timers the calculator gives no time.
+  plain : (P A c target : ℕ) → reactOf table P A ≡ Reacts c target → t .timers ≡ 0
+  plain P A c target e =
+      let read = holds-that-table table t (j .holds .well-formed) (j .holds .table-is) in
+      go (t .timers) (λ some. let f = sym (entry-refuses table (read .0) P A (rw (read .1) some)) ∙ e in apart cc)
+    where
+      go : (n : ℕ) → ((n ≡ 0 → ⊥) → n ≡ 0) → n ≡ 0
+      go zero h = refl
+      go (suc n) h = h (λ is. omega arith)
+
   calculated : {P A c target : ℕ} → reactOf table P A ≡ Reacts c target → Reaction t P A c target
   calculated {P} {A} {c} {target} e =
       let read = holds-that-table table t (j .holds .well-formed) (j .holds .table-is) in
-      rw (read .1) at (entry-means table (read .0) P A (Reacts c target) (sym e))
+      let none = plain P A c target e in
+      rw (read .1) at (entry-means table (read .0) P A (rw (read .1) none) (Reacts c target) (sym e))
 
 -- ---- Demand 3
+
+pub accepted-not-too-soon-by : NotTooSoonBy
+accepted-not-too-soon-by table journal t input records T j k real = not-too-soon-by t (j .holds .well-formed) k real input records T (accepted j)
 
 pub accepted-not-too-soon : NotTooSoon
 accepted-not-too-soon table journal t input records T j = not-too-soon t input records T (accepted j)
@@ -201,8 +217,9 @@ covers-bound : {t : Table} {P A target time : ℕ} → (time ≡ t .bound) ⊎ S
 covers-bound (inl e) = omega arith
 covers-bound (inr slowest) = omega (arith, slowest .is)
 
-in-time : (t : Table) (P A c target : ℕ) → WellFormed t → Reaction t P A c target → slots.NotTooLate t (member P) (member A) (member target) c
-in-time t P A c target ok r = one-move (record {
+in-time : (t : Table) (P A c target : ℕ) → WellFormed t → t .timers ≡ 0 → Reaction t P A c target → slots.NotTooLate t (member P) (member A) (member target) c
+in-time t P A c target ok none r = one-move (record {
+  no-regions = no-regions ok none;
   bound-positive = ok .bound .0;
   weights = weights t A (r .inputs);
   has = λ p a x y. r .next .has p a (x, y);
@@ -213,4 +230,4 @@ in-time t P A c target ok r = one-move (record {
 
 pub accepted-not-too-late : NotTooLate
 accepted-not-too-late table journal t input records T j P A c target e =
-    in-time t P A c target (j .holds .well-formed) (calculated j e) input records T (accepted j)
+    in-time t P A c target (j .holds .well-formed) (plain j P A c target e) (calculated j e) input records T (accepted j)

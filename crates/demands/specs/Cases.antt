@@ -32,6 +32,9 @@ classroomTable = record {
   next = padded 1024 (0 ∷ 1 ∷ 0 ∷ 1 ∷ []);
   hold = padded 32 (0 ∷ 5 ∷ []);
   delayed = padded 32 (0 ∷ 1 ∷ []);
+  timers = 0;
+  timing = zeros 8;
+  sets = zeros 128;
 }
 
 abbrev pub classroom : List ℕ

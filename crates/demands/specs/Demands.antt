@@ -8,7 +8,7 @@ use lib.ListN.{length}
 use Rattle.wire.specs.Encode.{Bytes}
 use Rattle.sets.specs.Sets.{member}
 use Rattle.table.specs.declared.Table.{Table}
-use Rattle.table.specs.Table.{holdOf, delays, WellFormed}
+use Rattle.table.specs.Table.{holdOf, delays, lengthOf, inRegion, timerDelays, WellFormed}
 use Rattle.table.specs.Encode as tables
 use Rattle.records.specs.declared.Record.{Record}
 use Rattle.records.specs.declared.Record.the-variants.{End}
@@ -22,8 +22,8 @@ use Rattle.journal.specs.declared.Answer.the-variants.{Accepted}
 use Rattle.journal.specs.Check.{checkOf}
 use Rattle.reaction.specs.declared.Answer.the-variants.{Reacts}
 use Rattle.reaction.specs.Reaction.{reactOf}
-use Rattle.runs.specs.Automaton.{initially, Run}
-use Rattle.runs.specs.Slots.{inputAt, stateAt, EnteredAt}
+use Rattle.runs.specs.Automaton.{RunOf}
+use Rattle.runs.specs.Slots.{inputAt, stateAt, EnteredAt, regionEntry}
 use Rattle.laws.specs.Journals.{JournalOf}
 
 -- ---- Acceptance
@@ -42,14 +42,15 @@ pub record Holds (table journal : List ℕ) (t : Table) (input : ℕ) (records :
   pub journal-is : JournalOf t journal input before-end T
   pub records-are : records ≡ before-end ++ End T ∷ []
 
--- The journal is not too long, and its records are a run of the table's timed automaton ending at T.
+-- The journal is not too long, and its records are a run of the table's timed automaton ending at T: the report's, or with timers that
+-- with their clocks.
 pub record HoldsRun (table journal : List ℕ) (T : ℕ) : Type 0 where
   pub short : length journal ≤ longestJournal
   pub t : Table
   pub input : ℕ
   pub records : List Record
   pub holds : Holds table journal t input records T
-  pub run : Run t 0 (initially t input) records T
+  pub run : RunOf t input records T
 
 -- Any bytes are accepted exactly when they hold such a run.
 abbrev pub AcceptedIsRun : Type 0
@@ -92,6 +93,16 @@ NotTooSoon =
     (q e k : ℕ) → EnteredAt t input records q e → e ≤ k → k ≤ e + holdOf t q → k < T →
     ((j : ℕ) → e ≤ j → j < k → delays t q (inputAt t input records j) ≡ true) →
     stateAt t input records k ≡ q
+
+-- The same for each timer k: q of its region is entered at f, the region's last entry up to f is at e, f ≤ n ≤ e + length, n < T, and each
+-- slot from f to n - 1 has an input that the timer delays in q. Then slot n has state q.
+abbrev pub NotTooSoonBy : Type 0
+NotTooSoonBy =
+    (table journal : List ℕ) (t : Table) (input : ℕ) (records : List Record) (T : ℕ) → AcceptedJournal table journal t input records T →
+    (k : ℕ) → k < t .timers →
+    (q f e n : ℕ) → inRegion t k q ≡ true → EnteredAt t input records q f → regionEntry t k f records ≡ e → f ≤ n → n ≤ e + lengthOf t k → n < T →
+    ((j : ℕ) → f ≤ j → j < n → timerDelays t k q (inputAt t input records j) ≡ true) →
+    stateAt t input records n ≡ q
 
 -- The calculator accepts P and A, s + c < T, and each slot from s to s + c - 1 has its state in P and its input in A. Then slot s + c
 -- has its state in the target.

@@ -80,9 +80,10 @@ run-none (made.Refused refusal place) h = refl
 run-none made.JournalTooLong h = refl
 run-none made.BufferTooShort h = refl
 
-pub reaction-none : (a : reaction′.Answer) → OneOf (1 ∷ 2 ∷ 3 ∷ 4 ∷ []) (tagOf ReactionT.the-type a) → valuesIn (reaction.replyOf a) ≡ []
-reaction-none (reacted.Reacts time target) h = absurd (miss (1 ∷ 2 ∷ 3 ∷ 4 ∷ []) 0 tt h)
+pub reaction-none : (a : reaction′.Answer) → OneOf (1 ∷ 2 ∷ 3 ∷ 4 ∷ 5 ∷ []) (tagOf ReactionT.the-type a) → valuesIn (reaction.replyOf a) ≡ []
+reaction-none (reacted.Reacts time target) h = absurd (miss (1 ∷ 2 ∷ 3 ∷ 4 ∷ 5 ∷ []) 0 tt h)
 reaction-none (reacted.TableRefused refusal) h = table-none refusal
+reaction-none reacted.HasTimers h = refl
 reaction-none reacted.UnknownState h = refl
 reaction-none reacted.UnknownInput h = refl
 reaction-none (reacted.LeavesStates at) h = refl

@@ -7,7 +7,7 @@ use native.Mathlib.Nat.{mul-le-mul}
 use native.Mathlib.Omega.{arith}
 use borrow.Author.Tests.{ltb-false, ltb-true}
 use lib.ListN.{length, getD}
-use Rattle.wire.specs.Choice.{_<?_, if_then_else_}
+use Rattle.wire.specs.Choice.{_<?_, _=?_, if_then_else_}
 use Rattle.wire.specs.Reply.{numberIn, placeIn, valuesIn}
 use Rattle.table.specs.declared.Table.{Table}
 use Rattle.table.specs.Table.{WellFormed}
@@ -36,9 +36,9 @@ use Rattle.runtime.specs.declared.Answer.the-variants as made
 use Rattle.runtime.specs.Answer as runtime
 use Rattle.runtime.specs.Run as run
 use Rattle.runtime.specs.Run.{Made, madeOf, madeUnder, runOf}
-use Rattle.reaction.specs.declared.Answer.the-variants.{Reacts, TableRefused, UnknownState, UnknownInput, LeavesStates}
+use Rattle.reaction.specs.declared.Answer.the-variants.{Reacts, TableRefused, HasTimers, UnknownState, UnknownInput, LeavesStates}
 use Rattle.reaction.specs.Answer as reaction
-use Rattle.reaction.specs.Reaction.{firstLeaving, reactionTime, nextSet, reactionOf, reactOf}
+use Rattle.reaction.specs.Reaction.{firstLeaving, reactionTime, nextSet, forHolds, reactionOf, reactOf}
 use Rattle.krossvil.specs.Small.{Fits}
 use Rattle.krossvil.proofs.TablePlaces.{table-none, table-fits}
 
@@ -153,10 +153,15 @@ run-fits table s room a is = rw is (go (runOf table s) (run-refuses table s))
     go (run.journal bytes) h = told bytes (longestJournal <? length bytes) refl (room <? length bytes)
 
 pub reaction-fits : (table : List ℕ) (P A : ℕ) → Fits (reaction.replyOf (reactOf table P A))
-unfolding reactOf reactionOf
+unfolding reactOf forHolds reactionOf
 reaction-fits table P A =
-    under-either TableRefused (λ t. reactionOf t P A) table (λ a. Fits (reaction.replyOf a)) (λ e. under (tableIn table) (well-formed table e)) (table-fits false table)
+    under-either TableRefused (forHolds HasTimers (λ t. reactionOf t P A)) table (λ a. Fits (reaction.replyOf a))
+    (λ e. by-kind (tableIn table .timers =? 0) (tableIn table) (under (tableIn table) (well-formed table e))) (table-fits false table)
   where
+    by-kind : (b : Bool) (t : Table) → Fits (reaction.replyOf (reactionOf t P A)) → Fits (reaction.replyOf (if b then reactionOf t P A else HasTimers))
+    by-kind true t fits = fits
+    by-kind false t fits = record { number = omega arith; place = omega arith }
+
     under : (t : Table) → WellFormed t → Fits (reaction.replyOf (reactionOf t P A))
     under t good = go (not (P <? 2 ^ t .states)) (not (A <? 2 ^ t .inputs)) (firstLeaving t P A <? t .states * t .inputs) refl
       where

@@ -1,11 +1,11 @@
 -- Refusal numbers are at most 30 and places are below 2^32, so that both fit into one number of 64 bits: the table's.
 use mathlib.Core.Path.{_≡_, refl, sym}
 use mathlib.Core.List.{List, []}
-use mathlib.Core.Bool.{Bool, true, false, _&&_}
+use mathlib.Core.Bool.{Bool, true, false, not, _&&_}
 use Prim.Native.Nat.{ℕ, zero, suc, _+_, _*_, _<_, _≤_}
 use native.Mathlib.Nat.{mul-le-mul}
 use native.Mathlib.Omega.{arith}
-use Rattle.wire.specs.Choice.{_=?_}
+use Rattle.wire.specs.Choice.{_=?_, if_then_else_}
 use Rattle.wire.specs.Field.{fieldAt}
 use Rattle.wire.specs.Reply.{Reply, gives, refuses, numberIn, placeIn, valuesIn}
 use Rattle.wire.specs.declared.Field.{Field}
@@ -16,9 +16,10 @@ use Rattle.table.specs.declared.Answer.the-variants as verdict
 use Rattle.table.specs.declared.Counts.{Counts}
 use Rattle.table.specs.Answer.{replyOf, _or-else_, _and-then_}
 use Rattle.table.specs.Entries.{entriesFrom}
-use Rattle.table.specs.Check.{named, fieldAnswer, rowAnswer, below, setAnswer, countsAnswer, boundAnswer, countsIn}
-use Rattle.table.specs.Check.{holdsAnswer, entriesAnswer, answerBy}
+use Rattle.table.specs.Check.{named, fieldAnswer, rowAnswer, below, badWord, setAnswer, timerAnswer, countsAnswer, boundAnswer, countsIn, holdField}
+use Rattle.table.specs.Check.{holdsAnswer, timerSetsAnswer, timersAnswer, timed, claimedTimers, timingAnswer, entriesAnswer, answerBy}
 use Rattle.table.proofs.Answers.{decided}
+use Rattle.table.proofs.Rows.{number-known}
 use Rattle.table.proofs.Stands.{counts-stand}
 use Rattle.krossvil.specs.Small.{Fits}
 
@@ -74,15 +75,55 @@ unfolding setAnswer
 by-set old hold set limit place low =
     by-then _ _ (by-test _ _ (record { number = omega arith; place = low })) (λ p. by-test _ _ (record { number = omega arith; place = low }))
 
-by-all : (old : Bool) (c : Counts) (s : List ℕ) → c .states ≤ 32 → c .inputs ≤ 32 → By (entriesAnswer old c s)
-unfolding entriesAnswer holdsAnswer
-by-all old c s few narrow =
-    let many : c .states * c .inputs ≤ 1024 = mul-le-mul few narrow in
-    by-then _ _ (by-row s _ _ (omega arith) _ _ _ (λ k h. by-below _ _ _ k (record { number = omega arith; place = omega arith }))) (λ p.
-    by-then _ _ (by-row s _ _ (omega arith) _ _ _ (λ k h. by-below _ _ _ k (record { number = omega arith; place = omega arith }))) (λ q.
-    by-then _ _ (by-row s _ _ (omega arith) _ _ _ (λ k h. by-below _ _ _ k (record { number = omega arith; place = omega arith }))) (λ r.
-    by-then _ _ (by-row s _ _ (omega arith) _ _ _ (λ k h. by-set _ _ _ _ _ (omega arith))) (λ u.
-    by-test _ _ (record { number = omega arith; place = omega arith })))))
+by-word : (tag place : ℕ) → place ≤ 2000 → By (badWord tag place)
+unfolding badWord
+by-word tag place low = go (tag =? 0x05)
+  where
+    go : (b : Bool) → By (if b then verdict.HoldTooLong place else verdict.UnknownMember place)
+    go true = record { number = omega arith; place = low }
+    go false = record { number = omega arith; place = low }
+
+by-timer : (length region limit place : ℕ) → place ≤ 1900 → By (timerAnswer length region limit place)
+unfolding timerAnswer
+by-timer length region limit place low =
+    by-then _ _ (by-test _ _ (record { number = omega arith; place = omega arith })) (λ p.
+    by-test _ _ (record { number = omega arith; place = omega arith }))
+
+module _ (c : Counts) (s : List ℕ) (few : c .states ≤ 32) (narrow : c .inputs ≤ 32) where
+  many : c .states * c .inputs ≤ 1024
+  many = mul-le-mul few narrow
+
+  by-holds : (old : Bool) → By (holdsAnswer old c s)
+  unfolding holdsAnswer
+  by-holds old =
+      by-then _ _ (by-row s _ _ (omega (arith, many)) _ _ _ (λ k h. by-below _ _ _ k (by-word _ _ (omega (arith, many))))) (λ r.
+      by-then _ _ (by-row s _ _ (omega (arith, many)) _ _ _ (λ k h. by-set _ _ _ _ _ (omega (arith, many)))) (λ u.
+      by-test _ _ (record { number = omega arith; place = omega (arith, many) })))
+
+  by-timers : (n : ℕ) → By (timersAnswer c n s)
+  unfolding timersAnswer timerSetsAnswer
+  by-timers n =
+      by-then _ _ (by-test _ _ (record { number = omega arith; place = omega (arith, many) })) (λ p.
+      let four = number-known n (holdField c) p .1 in
+      let rows : c .states * n ≤ 128 = mul-le-mul few four in
+      by-then _ _ (by-row s _ _ (omega (arith, many)) _ _ _ (λ k h. by-timer _ _ _ _ (omega (arith, many)))) (λ r.
+      by-then _ _ (by-row s _ _ (omega (arith, many)) _ _ _ (λ k h. by-below _ _ _ k (by-word _ _ (omega (arith, many))))) (λ u.
+      by-test _ _ (record { number = omega arith; place = omega (arith, many) }))))
+
+  by-timing : (old : Bool) → By (timingAnswer old c s)
+  unfolding timingAnswer
+  by-timing old = go (not old && timed c s)
+    where
+      go : (b : Bool) → By (if b then timersAnswer c (claimedTimers c s) s else holdsAnswer old c s)
+      go true = by-timers (claimedTimers c s)
+      go false = by-holds old
+
+  by-all : (old : Bool) → By (entriesAnswer old c s)
+  unfolding entriesAnswer
+  by-all old =
+      by-then _ _ (by-row s _ _ (omega arith) _ _ _ (λ k h. by-below _ _ _ k (record { number = omega arith; place = omega arith }))) (λ p.
+      by-then _ _ (by-row s _ _ (omega arith) _ _ _ (λ k h. by-below _ _ _ k (record { number = omega arith; place = omega (arith, many) }))) (λ q.
+      by-timing old))
 
 by-table : (old : Bool) (s : List ℕ) → By (answerBy old s)
 unfolding answerBy countsAnswer boundAnswer
@@ -93,7 +134,7 @@ by-table old s =
     let fit = counts-stand s p .1 in
     by-then _ _
     (by-then _ _ (by-field s 7 0x02 (omega arith) 4) (λ q. by-test _ _ (record { number = omega arith; place = omega arith })))
-    (λ q. by-all old (countsIn s) s (fit .states .1) (fit .inputs .1)))
+    (λ q. by-all (countsIn s) s (fit .states .1) (fit .inputs .1) old))
 
 pub table-fits : (old : Bool) (s : List ℕ) → Fits (replyOf (answerBy old s))
 table-fits old s =

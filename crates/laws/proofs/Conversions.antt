@@ -4,7 +4,7 @@ use mathlib.Core.List.{List, [], _∷_, _++_, append-assoc}
 use mathlib.Core.Bool.{Bool, true, false, _&&_, not}
 use Prim.Native.Nat.{ℕ, zero, suc, _+_, _*_, _/_, _%_, _^_, _<_, _≤_}
 use native.Mathlib.Omega.{arith}
-use borrow.Author.Tests.{eqb-true, le-ltb, ltb-false}
+use borrow.Author.Tests.{eq-eqb, eqb-true, le-ltb, ltb-false}
 use lib.ListN.{length, getD, take, drop, length-append}
 use lib.Seq.{take-at, length-take-le}
 use Rattle.wire.specs.Choice.{_<?_, _=?_, if_then_else_}
@@ -16,11 +16,11 @@ use Rattle.sets.proofs.Members.{member-below, below-limit}
 use Rattle.table.specs.declared.Answer.the-variants.{Passes}
 use Rattle.table.specs.declared.Table.{Table}
 use Rattle.table.specs.Entries.{values, filled, zeros}
-use Rattle.table.specs.Table.{holdOf, delayedOf, delays, Uses, WellFormedBy, WellFormed}
-use Rattle.table.specs.Check.{wordEntry, countsIn, holdField, delayedField, oldAnswer, tableAnswer, tableOf, tableIn}
-use Rattle.table.specs.Encode.{encode, words}
+use Rattle.table.specs.Table.{holdOf, delayedOf, delays, regionOf, holders, Uses, WellFormedBy, WellFormed}
+use Rattle.table.specs.Check.{wordEntry, countsIn, holdField, delayedField, oldAnswer, tableAnswer, tableWith, tableIn}
+use Rattle.table.specs.Encode.{encode, timing, words}
 use Rattle.table.proofs.Answers.{decided}
-use Rattle.table.proofs.Stands.{table-stands}
+use Rattle.table.proofs.Stands.{old-stands}
 use Rattle.table.proofs.Under.{under-passes}
 use Rattle.table.proofs.Values.{length-values, getD-filled, filled-uses}
 use Rattle.table.proofs.WellFormed.{well-formed-by, well-formed}
@@ -32,6 +32,7 @@ use Rattle.records.specs.Form as form
 use Rattle.journal.specs.Check as journal
 use Rattle.journal.specs.Check.{checkOf}
 use Rattle.reaction.specs.Reaction.{reactionOf, reactOf}
+use Rattle.reaction.proofs.Entry.{has-holds}
 use Rattle.runtime.specs.Run as run
 use Rattle.runtime.specs.Run.{madeUnder, runOf}
 use Rattle.laws.specs.Conversions.{answerFor, newTable, ConvertsFaithfully, PassingComesBack, ConvertsOnce}
@@ -52,8 +53,8 @@ new-below hold set limit low = go (hold =? 0)
 with-sets : {old other : Bool} (t : Table) → WellFormedBy old t → (sets : List ℕ) →
     ((q i : ℕ) → q < t .states → delays (withSets t sets) q i ≡ true → i < t .inputs) →
     (other ≡ false → (q : ℕ) → q < t .states → holdOf t q ≡ 0 → delayedOf (withSets t sets) q ≡ 0) →
-    Uses (t .states) 32 sets → WellFormedBy other (withSets t sets)
-with-sets t ok sets delayed not-idle uses = record {
+    (other ≡ true → t .timers ≡ 0) → Uses (holders t) 32 sets → WellFormedBy other (withSets t sets)
+with-sets t ok sets delayed not-idle no-timers uses = record {
   states = ok .states;
   inputs = ok .inputs;
   outputs = ok .outputs;
@@ -64,18 +65,32 @@ with-sets t ok sets delayed not-idle uses = record {
   hold = ok .hold;
   delayed = delayed;
   not-idle = not-idle;
+  timers = ok .timers;
+  no-timers = no-timers;
+  length = ok .length;
+  region = ok .region;
+  sets = ok .sets;
   output-uses = ok .output-uses;
   next-uses = ok .next-uses;
   hold-uses = ok .hold-uses;
   delayed-uses = uses;
+  timing-uses = ok .timing-uses;
+  sets-uses = ok .sets-uses;
 }
+
+-- In a table without timers every state may have a hold of its own.
+empty-regions : {old : Bool} (t : Table) → WellFormedBy old t → t .timers ≡ 0 → (k : ℕ) → regionOf t k ≡ 0
+empty-regions t ok none k = ok .timing-uses .rest (2 * k + 1) (rw none (omega arith))
+
+plain-uses : {old : Bool} (t : Table) → WellFormedBy old t → t .timers ≡ 0 → Uses (t .states) 32 (t .delayed)
+plain-uses t ok none = rw (eq-eqb (t .timers) 0 none) at (ok .delayed-uses)
 
 module _ (t : Table) (ok : WellFormedBy true t) where
   abbrev few : t .states ≤ 32
   few = ok .states .1
 
   emptied-set : (q : ℕ) → delayedOf (emptied t) q ≡ newSet (holdOf t q) (delayedOf t q)
-  emptied-set = set-is t few (ok .delayed-uses)
+  emptied-set = set-is t few (plain-uses t ok (ok .no-timers refl)) (empty-regions t ok (ok .no-timers refl))
 
   emptied-below : (q : ℕ) → q < t .states → delayedOf (emptied t) q < 2 ^ t .inputs
   emptied-below q h = rw (emptied-set q) (new-below (holdOf t q) (delayedOf t q) (2 ^ t .inputs) (below-limit _ (t .inputs) (λ i. ok .delayed q i h)))
@@ -86,8 +101,8 @@ module _ (t : Table) (ok : WellFormedBy true t) where
   emptied-well : WellFormed (emptied t)
   unfolding emptied
   emptied-well =
-      with-sets t ok _ (λ q i h m. member-below _ (t .inputs) i (emptied-below q h) m) (λ new q h none. emptied-idle q none)
-      (filled-uses (λ q. newSet (holdOf t q) (delayedOf t q)) (t .states) 32 few)
+      with-sets t ok _ (λ q i h m. member-below _ (t .inputs) i (emptied-below q h) m) (λ new q h none. emptied-idle q none) (λ old. ok .no-timers refl)
+      (rw (eq-eqb (t .timers) 0 (ok .no-timers refl)) (filled-uses (λ q. newSet (holdOf t q) (delayedOf t q)) (t .states) 32 few))
 
 -- ---- The bytes are its encoding
 
@@ -107,29 +122,35 @@ last-field s a tag at v w is long same =
     let cut : take (at + 3) s ≡ a ++ head = ap (take (at + 3)) (is ∙ sym (append-assoc a head v)) ∙ take-at (a ++ head) v (at + 3) before in
     rw (cut, same) (append-assoc a head w)
 
-abbrev before06 : Table → List ℕ
-before06 t =
+abbrev to04 : Table → List ℕ
+to04 t =
     field 0x01 (t .states ∷ t .inputs ∷ t .outputs ∷ t .initial ∷ [])
     ++ field 0x02 (bytes32 (t .bound))
     ++ field 0x03 (take (t .states) (t .output))
     ++ field 0x04 (take (t .states * t .inputs) (t .next))
-    ++ field 0x05 (words (take (t .states) (t .hold)))
+
+abbrev field05 : Table → List ℕ
+field05 t = field 0x05 (words (take (t .states) (t .hold)))
 
 module _ (s : List ℕ) (passes : oldAnswer s ≡ Passes) where
+  -- By the old rules it has holds.
   abbrev table : Table
-  table = tableIn s
+  table = tableWith (countsIn s) s 0
+
+  is-table : tableIn s ≡ table
+  is-table = ap (tableWith (countsIn s) s) (old-stands s passes .1 .none)
 
   abbrev states : ℕ
   states = countsIn s .states
 
   well : WellFormedBy true table
-  well = well-formed-by true s passes
+  well = rw is-table at (well-formed-by true s passes)
 
   abbrev sets : List ℕ
   sets = values (byState newSet s (holdField (countsIn s)) (delayedField (countsIn s))) states
 
   sets-same : sets ≡ take states (emptied table .delayed)
-  unfolding emptied tableOf
+  unfolding emptied tableWith
   sets-same =
       let read : (entry : ℕ → ℕ) (q : ℕ) → q < states → entry q ≡ getD (filled entry states (zeros 32)) q 0 =
       λ entry q h. sym (getD-filled entry states 32 (well .states .1) q h)
@@ -140,16 +161,20 @@ module _ (s : List ℕ) (passes : oldAnswer s ≡ Passes) where
       ) refl)
       ∙ sym (front (λ q. newSet (holdOf table q) (delayedOf table q)) states 32)
 
-  new-encodes : s ≡ encode table → newBytes (countsIn s) s ≡ encode (emptied table)
-  unfolding newBytes encode emptied tableOf
-  new-encodes is =
+  table-encodes : s ≡ encode table → newBytes (countsIn s) s ≡ encode (emptied table)
+  unfolding newBytes encode timing emptied tableWith
+  table-encodes is =
       let old = words (take states (table .delayed)) in
       let room : states ≤ length (table .delayed) = rw (well .delayed-uses .places) (well .states .1) in
       let old-long : length old ≡ 4 * states = length-words _ ∙ ap (λ n. 4 * n) (length-take-le states (table .delayed) room) in
       let new-long : length (words sets) ≡ 4 * states = length-words _ ∙ ap (λ n. 4 * n) (length-values _ states) in
-      last-field s (before06 table) 0x06 (delayedField (countsIn s)) old (words sets) is
-      (omega (arith, old-long, table-stands true s passes .ends)) (new-long ∙ sym old-long)
-      ∙ ap (λ v. before06 table ++ field 0x06 (words v)) sets-same
+      last-field s (to04 table ++ field05 table) 0x06 (delayedField (countsIn s)) old (words sets) (is ∙ sym (append-assoc (to04 table) (field05 table) (field 0x06 old)))
+      (omega (arith, old-long, old-stands s passes .1 .ends)) (new-long ∙ sym old-long)
+      ∙ append-assoc (to04 table) (field05 table) (field 0x06 (words sets))
+      ∙ ap (λ v. to04 table ++ (field05 table ++ field 0x06 (words v))) sets-same
+
+new-encodes : (s : List ℕ) (passes : oldAnswer s ≡ Passes) → s ≡ encode (tableIn s) → newBytes (countsIn s) s ≡ encode (emptied (tableIn s))
+new-encodes s passes is = let same = is-table s passes in rw same (table-encodes s passes (rw same at is))
 
 -- ---- What the entry does with it
 
@@ -185,6 +210,10 @@ module _ (s buffer : List ℕ) (passes : oldAnswer s ≡ Passes) (room : length 
       rw (made-of s passes, enough)
       (take-at (newBytes (countsIn s) s) (drop (length (newBytes (countsIn s) s)) buffer) (length s) (new-length s buffer passes))
 
+no-timers-emptied : (t : Table) → emptied t .timers ≡ t .timers
+unfolding emptied
+no-timers-emptied t = refl
+
 pub converts-faithfully : ConvertsFaithfully
 unfolding checkOf runOf reactOf
 converts-faithfully old buffer changed c =
@@ -197,11 +226,15 @@ converts-faithfully old buffer changed c =
     let now : tableAnswer (newTable old buffer) ≡ Passes = ap tableAnswer is ∙ new .0 in
     let read : tableIn (newTable old buffer) ≡ emptied t = ap tableIn is ∙ new .1 in
     let few = ok .states .1 in
-    let uses = ok .delayed-uses in (
+    let plain = ok .no-timers refl in
+    let uses = plain-uses t ok plain in
+    let none = empty-regions t ok plain in
+    let still : tableIn (newTable old buffer) .timers ≡ 0 = ap (λ x. x .timers) read ∙ no-timers-emptied t ∙ plain in (
       (is, now),
-      λ s. under-passes _ _ (newTable old buffer) now ∙ ap (λ x. journal.answerIn form.journal x s) read ∙ answers-same t few uses form.journal s,
-      λ s. under-passes _ _ (newTable old buffer) now ∙ ap (λ x. madeUnder x s) read ∙ ap run.madeOf (run-same t few uses form.stimulus s),
-      λ P A. under-passes _ _ (newTable old buffer) now ∙ ap (λ x. reactionOf x P A) read ∙ reactions-same t few uses P A,
+      λ s. under-passes _ _ (newTable old buffer) now ∙ ap (λ x. journal.answerIn form.journal x s) read ∙ answers-same t few uses none form.journal s,
+      λ s. under-passes _ _ (newTable old buffer) now ∙ ap (λ x. madeUnder x s) read ∙ ap run.madeOf (run-same t few uses none form.stimulus s),
+      λ P A. under-passes _ _ (newTable old buffer) now ∙ has-holds _ _ (tableIn (newTable old buffer)) still ∙ ap (λ x. reactionOf x P A) read
+          ∙ reactions-same t few uses none P A,
     )
 
 -- ---- A table that passes
@@ -219,28 +252,28 @@ kept-set hold set idle = go (hold =? 0) refl
     go true e = rw (idle (eqb-true hold 0 e)) (refl, refl)
     go false e = (refl, refl)
 
-emptied-same : (t : Table) → WellFormed t → emptied t ≡ t
+emptied-same : (t : Table) → WellFormed t → t .timers ≡ 0 → emptied t ≡ t
 unfolding emptied
-emptied-same t ok =
+emptied-same t ok none =
     let new : ℕ → ℕ = λ q. newSet (holdOf t q) (delayedOf t q) in
     let few = ok .states .1 in
     let each : (q : ℕ) → q < t .states → getD (filled new (t .states) (zeros 32)) q 0 ≡ delayedOf t q =
     λ q h. getD-filled new (t .states) 32 few q h ∙ kept-set (holdOf t q) (delayedOf t q) (ok .not-idle refl q h) .0
     in
-    rw (same-array (t .states) 32 _ (t .delayed) (filled-uses new (t .states) 32 few) (ok .delayed-uses) each) refl
+    rw (same-array (t .states) 32 _ (t .delayed) (filled-uses new (t .states) 32 few) (plain-uses t ok none) each) refl
 
-old-well : (t : Table) → WellFormed t → WellFormedBy true t
-old-well t ok = with-sets t ok (t .delayed) (ok .delayed) (λ new. absurd (never (sym new))) (ok .delayed-uses)
+old-well : (t : Table) → WellFormed t → t .timers ≡ 0 → WellFormedBy true t
+old-well t ok none = with-sets t ok (t .delayed) (ok .delayed) (λ new. absurd (never (sym new))) (λ old. none) (ok .delayed-uses)
 
-module _ (s : List ℕ) (t : Table) (ok : WellFormed t) (is : s ≡ encode t) where
+module _ (s : List ℕ) (t : Table) (ok : WellFormed t) (plain : t .timers ≡ 0) (is : s ≡ encode t) where
   read-it : (oldAnswer s ≡ Passes) × (tableIn s ≡ t)
-  read-it = rw is (encoding-passes true t (old-well t ok))
+  read-it = rw is (encoding-passes true t (old-well t ok plain))
 
   no-changes : changes (countsIn s) s ≡ 0
-  unfolding changes tableOf
+  unfolding changes tableWith
   no-changes =
       let c = countsIn s in
-      let ok′ : WellFormed (tableIn s) = rw (read-it .1) ok in
+      let ok′ : WellFormed (tableWith c s 0) = rw (← is-table s (read-it .0)) (rw (read-it .1) ok) in
       let few = ok′ .states .1 in
       total-none _ (c .states) (λ q h. kept-set _ _ (λ none.
       sym (getD-filled (wordEntry s (delayedField c)) (c .states) 32 few q h)
@@ -251,13 +284,13 @@ module _ (s : List ℕ) (t : Table) (ok : WellFormed t) (is : s ≡ encode t) wh
       let passes = read-it .0 in
       let same = read-it .1 in
       let encoded : s ≡ encode (tableIn s) = is ∙ ap encode (sym same) in
-      let emptied-is : emptied (tableIn s) ≡ tableIn s = rw same (emptied-same t ok) in (
+      let emptied-is : emptied (tableIn s) ≡ tableIn s = rw same (emptied-same t ok plain) in (
         answers s buffer passes room ∙ ap Converted no-changes,
         writes-new s buffer passes room ∙ new-encodes s passes encoded ∙ ap encode emptied-is ∙ sym encoded,
       )
 
 pub passing-comes-back : PassingComesBack
-passing-comes-back s buffer bytes passes = comes-back s (tableIn s) (well-formed s passes) (passes-encodes false s bytes passes) buffer
+passing-comes-back s buffer bytes passes plain = comes-back s (tableIn s) (well-formed s passes) plain (passes-encodes false s bytes passes) buffer
 
 pub converts-once : ConvertsOnce
 converts-once old buffer again changed c room =
@@ -265,4 +298,6 @@ converts-once old buffer again changed c room =
     let passes = done .0 in
     let new = converts-faithfully old buffer changed c .0 in
     let long : length (newTable old buffer) ≡ length old = ap length (writes-new old buffer passes (done .1)) ∙ new-length old buffer passes in
-    comes-back (newTable old buffer) (emptied (tableIn old)) (emptied-well (tableIn old) (well-formed-by true old passes)) (new .0) again (omega (arith, long))
+    let ok = well-formed-by true old passes in
+    comes-back (newTable old buffer) (emptied (tableIn old)) (emptied-well (tableIn old) ok) (no-timers-emptied (tableIn old) ∙ ok .no-timers refl) (new .0) again
+    (omega (arith, long))

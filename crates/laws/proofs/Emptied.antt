@@ -9,7 +9,7 @@ use lib.ListN.{length}
 use Rattle.wire.specs.Choice.{_<?_, _=?_, _and_, if_then_else_}
 use Rattle.sets.specs.Sets.{member, some, largest}
 use Rattle.table.specs.declared.Table.{Table}
-use Rattle.table.specs.Table.{holdOf, delayedOf, Uses}
+use Rattle.table.specs.Table.{holdOf, delayedOf, regionOf, Uses}
 use Rattle.table.proofs.Values.{getD-filled, filled-uses}
 use Rattle.records.specs.declared.Record.{Record}
 use Rattle.records.specs.declared.Record.the-variants.{Change, Poll, Test, Tick, End}
@@ -22,7 +22,8 @@ use Rattle.machine.specs.declared.Machine.{Machine}
 use Rattle.machine.specs.Verdict.{ruleBy, verdictBy, leftBy}
 use Rattle.machine.specs.declared.Gate.{Gate}
 use Rattle.machine.specs.declared.Gate.the-variants.{Open, Shut}
-use Rattle.machine.specs.Machine.{start, kindOf, rule, verdict, left, stateAfter, agrees, after, gate, through, step}
+use Rattle.machine.specs.Machine.{start, kindOf, rule, verdict, left, stateAfter, regionsAfter, agrees, after, gate, through, step}
+use Rattle.machine.proofs.Watches.{rule-by-state, left-by-state}
 use Rattle.machine.specs.Most.{most}
 use Rattle.machine.specs.Run.{mostLeft}
 use Rattle.machine.specs.Walk.{Run, ran, tooLong, refused, inTable, filled, completed, onwards, walk, ranFrom, recordsRun, opened, runOver}
@@ -48,7 +49,7 @@ unfolding ruleBy
 rule-new zero set polled entry time = refl
 rule-new (suc hold) set polled entry time = ap (λ d. ruleBy (suc hold) d polled entry time) (has-hold hold set)
 
-module _ (t : Table) (few : t .states ≤ 32) (uses : Uses (t .states) 32 (t .delayed)) where
+module _ (t : Table) (few : t .states ≤ 32) (uses : Uses (t .states) 32 (t .delayed)) (none : (k : ℕ) → regionOf t k ≡ 0) where
   abbrev t′ : Table
   t′ = emptied t
 
@@ -68,26 +69,36 @@ module _ (t : Table) (few : t .states ≤ 32) (uses : Uses (t .states) 32 (t .de
   rule-same : (m : Machine) (time : ℕ) → rule t′ m time ≡ rule t m time
   unfolding emptied
   rule-same m time =
-      ap (λ d. ruleBy (holdOf t (m .state)) d (m .polled) (m .entry) time) (set-is (m .state))
+      rule-by-state t′ m time none
+      ∙ ap (λ d. ruleBy (holdOf t (m .state)) d (m .polled) (m .entry) time) (set-is (m .state))
       ∙ rule-new (holdOf t (m .state)) (delayedOf t (m .state)) (m .polled) (m .entry) time
+      ∙ sym (rule-by-state t m time none)
 
   verdict-same : (m : Machine) (time : ℕ) → verdict t′ m time ≡ verdict t m time
   unfolding verdict
   verdict-same m time = ap verdictBy (rule-same m time)
 
   left-same : (m : Machine) (time : ℕ) → left t′ m time ≡ left t m time
-  unfolding left emptied
-  left-same m time = ap (leftBy (holdOf t (m .state)) (m .entry) time) (rule-same m time)
+  unfolding emptied
+  left-same m time =
+      left-by-state t′ m time none
+      ∙ ap (λ d. leftBy (holdOf t (m .state)) (m .entry) time (ruleBy (holdOf t (m .state)) d (m .polled) (m .entry) time)) (set-is (m .state))
+      ∙ ap (leftBy (holdOf t (m .state)) (m .entry) time) (rule-new (holdOf t (m .state)) (delayedOf t (m .state)) (m .polled) (m .entry) time)
+      ∙ sym (left-by-state t m time none)
 
   state-same : (m : Machine) → stateAfter t′ m ≡ stateAfter t m
   unfolding stateAfter emptied
   state-same m = refl
 
+  regions-same : (m : Machine) (time : ℕ) → regionsAfter t′ m time ≡ regionsAfter t m time
+  unfolding regionsAfter stateAfter emptied
+  regions-same m time = refl
+
   after-same : (m : Machine) (r : Record) → after t′ m r ≡ after t m r
   after-same m (Change time input) = refl
   after-same m (Poll time input) = refl
   after-same m (Test time v) = rw (verdict-same m time) refl
-  after-same m (Tick time q) = rw (state-same m) refl
+  after-same m (Tick time q) = rw (state-same m, regions-same m time) refl
   after-same m (End time) = refl
 
   agrees-same : (m : Machine) (r : Record) → agrees t′ m r ≡ agrees t m r

@@ -1,4 +1,5 @@
 pub mod Rows
+pub mod Timing
 pub mod Encoding
 pub mod Tables
 pub mod Walks
@@ -7,3 +8,4 @@ pub mod Runtimes
 pub mod Never28
 pub mod Emptied
 pub mod Conversions
+pub mod Timers

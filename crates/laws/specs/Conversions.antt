@@ -51,9 +51,9 @@ abbrev pub ConvertsFaithfully : Type 0
 ConvertsFaithfully = (old buffer : List ℕ) (changed : ℕ) → Converts old buffer changed →
     NowPasses old buffer × SameJournals old buffer × SameRuns old buffer × SameReactions old buffer
 
--- A table that passes the check comes back byte for byte, with 0, in every buffer that has room.
+-- A table with holds that passes the check comes back byte for byte, with 0, in every buffer that has room.
 abbrev pub PassingComesBack : Type 0
-PassingComesBack = (s buffer : List ℕ) → Bytes s → tableAnswer s ≡ Passes → length s ≤ length buffer →
+PassingComesBack = (s buffer : List ℕ) → Bytes s → tableAnswer s ≡ Passes → tableIn s .timers ≡ 0 → length s ≤ length buffer →
     (answerFor s buffer ≡ Converted 0) × (newTable s buffer ≡ s)
 
 -- Converting twice changes nothing more.

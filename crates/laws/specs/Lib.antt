@@ -3,3 +3,4 @@ pub mod Walks
 pub mod Journals
 pub mod Runtimes
 pub mod Conversions
+pub mod Timers

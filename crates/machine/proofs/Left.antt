@@ -1,63 +1,85 @@
 -- What the ticks left mean, as specs/Left states it.
-use mathlib.Core.Path.{_≡_, refl, sym, ap}
+use mathlib.Core.Path.{_≡_, refl, sym, ap, _∙_}
 use mathlib.Core.Logic.{_↔_}
-use mathlib.Core.Bool.{true}
-use Prim.Native.Nat.{ℕ, _+_, _-_, _<_, _≤_}
+use mathlib.Core.List.{List, [], _∷_}
+use mathlib.Core.Bool.{Bool, true, false}
+use Prim.Native.Nat.{ℕ, _+_, _-_, _<_, _≤_, max}
 use native.Mathlib.Omega.{arith}
-use borrow.Author.Tests.{ltb-true}
-use Rattle.wire.specs.Choice.{_<?_}
-use Rattle.wire.proofs.Choice.{both}
-use Rattle.table.specs.Table.{member, holdOf, delayedOf}
+use Rattle.wire.specs.Choice.{_<?_, _and_, if_then_else_}
+use Rattle.table.specs.declared.Table.{Table}
+use Rattle.table.specs.Table.{member}
+use Rattle.machine.specs.declared.Machine.{Machine}
 use Rattle.machine.specs.declared.Rule.{Rule}
 use Rattle.machine.specs.declared.Rule.the-variants.{Running, Passed, NoHold}
-use Rattle.machine.specs.Verdict.{ruleBy, verdictBy, leftBy}
-use Rattle.machine.specs.Machine.{rule, verdict, left, after}
+use Rattle.machine.specs.Verdict.{verdictBy, leftBy, Watch, ruleOf, leftOf, stronger, strongest, largest}
+use Rattle.machine.specs.Machine.{entryInto, watches, rule, verdict, left, after}
 use Rattle.records.specs.Record.{isTest}
 use Rattle.machine.specs.Left.{HeldIsLeft, LeftUntilFree, LeftIsMost}
 use Rattle.machine.proofs.Most.{is-most}
-use Rattle.machine.proofs.Rules.{exactly-one, still-running, has-passed, running-within}
+use Rattle.machine.proofs.Rules.{left-is}
+use Rattle.machine.proofs.Steps.{verdict-small}
+use Rattle.machine.proofs.Watches.{Each, each-timer}
+
+-- ---- Held exactly when some are left
+
+passed-frees : (y : Rule) → verdictBy (stronger Passed y) ≡ verdictBy y
+passed-frees Running = refl
+passed-frees Passed = refl
+passed-frees NoHold = refl
+
+held-by : (polled time : ℕ) (ws : List Watch) →
+    (verdictBy (strongest (ruleOf polled time) ws) ≡ 0) ↔ (0 < largest (leftOf polled time) ws)
+unfolding strongest largest
+held-by polled time [] = (λ e. absurd (omega arith), λ l. absurd (omega arith))
+held-by polled time (w ∷ ws) = go (ruleOf polled time w) (strongest (ruleOf polled time) ws) (largest (leftOf polled time) ws) (held-by polled time ws)
+  where
+    go : (x y : Rule) (n : ℕ) → (verdictBy y ≡ 0) ↔ (0 < n) → (verdictBy (stronger x y) ≡ 0) ↔ (0 < max (leftBy (w .hold) (w .since) time x) n)
+    go Running y n rest = (λ e. omega arith, λ l. refl)
+    go Passed y n rest = rw (passed-frees y) (λ e. omega (arith, rest .0 e), λ l. rest .1 (omega arith))
+    go NoHold y n rest = (λ e. omega (arith, rest .0 e), λ l. rest .1 (omega arith))
 
 pub held-is-left : HeldIsLeft
-unfolding verdict left
-held-is-left t m time = go (rule t m time)
+unfolding verdict left rule
+held-is-left t m time = held-by (m .polled) time (watches t m)
+
+module _ (t : Table) (m : Machine) (time ticks : ℕ) (is : ticks ≡ left t m time) where
+  pub none-left : ticks ≡ 0 → 1 ≡ verdict t m time
+  none-left none =
+      let not-held : verdict t m time ≡ 0 → ⊥ = λ h. let l = held-is-left t m time .0 h in omega arith in
+      omega (arith, verdict-small t m time)
+
+  pub some-left : (ticks ≡ 0 → ⊥) → 0 ≡ verdict t m time
+  some-left some = sym (held-is-left t m time .1 (omega arith))
+
+-- ---- As time goes on they fall with it
+
+watch-falls : (polled time d : ℕ) (w : Watch) → w .since ≤ time → leftOf polled (time + d) w ≡ leftOf polled time w - d
+watch-falls polled time d w order =
+    left-is (w .hold) (w .delayed) polled (w .since) (time + d)
+    ∙ go ((0 <? w .hold) and member (w .delayed) polled)
+    ∙ ap (λ n. n - d) (sym (left-is (w .hold) (w .delayed) polled (w .since) time))
   where
-    go : (x : Rule) → (verdictBy x ≡ 0) ↔ (0 < leftBy (holdOf t (m .state)) (m .entry) time x)
-    go Running = (λ e. omega arith, λ l. refl)
-    go Passed = (λ e. absurd (omega arith), λ l. absurd (omega arith))
-    go NoHold = (λ e. absurd (omega arith), λ l. absurd (omega arith))
+    go : (b : Bool) → (if b then w .hold + 1 - (time + d - w .since) else 0) ≡ (if b then w .hold + 1 - (time - w .since) else 0) - d
+    go true = omega arith
+    go false = omega arith
 
--- While a hold runs it is the time alone that ends it.
-module _ (hold delayed polled entry time : ℕ) (order : entry ≤ time) (runs : ruleBy hold delayed polled entry time ≡ Running) where
-  within : time - entry ≤ hold
-  within = running-within hold delayed polled entry time runs
+largest-falls : (polled time d : ℕ) (ws : List Watch) → Each (λ w. w .since ≤ time) ws →
+    largest (leftOf polled (time + d)) ws ≡ largest (leftOf polled time) ws - d
+unfolding largest
+largest-falls polled time d [] h = omega arith
+largest-falls polled time d (w ∷ ws) (h, each) = omega (arith, watch-falls polled time d w h, largest-falls polled time d ws each)
 
-  tests : ((0 <? hold) ≡ true) × (member delayed polled ≡ true)
-  tests =
-      let yes = both (0 <? hold) _ (exactly-one hold delayed polled entry time .0 .1 runs) in
-      (yes .0, both (member delayed polled) _ (yes .1) .0)
-
-  some-hold : hold ≡ 0 → ⊥
-  some-hold none = let l = ltb-true 0 hold (tests .0) in omega arith
-
-  frees : Passed ≡ ruleBy hold delayed polled entry (time + (hold - (time - entry) + 1))
-  frees = let l = within in has-passed hold delayed polled entry _ some-hold (tests .1) (omega arith)
-
-  holds : (d : ℕ) → d < hold - (time - entry) + 1 → Running ≡ ruleBy hold delayed polled entry (time + d)
-  holds d u = let l = within in still-running hold delayed polled entry _ some-hold (tests .1) (omega arith)
+module _ (t : Table) (m : Machine) (time : ℕ) (entry : m .entry ≤ time) (regions : (k : ℕ) → entryInto (m .regions) k ≤ time) where
+  pub left-falls : (d : ℕ) → left t m (time + d) ≡ left t m time - d
+  unfolding left
+  left-falls d = largest-falls (m .polled) time d (watches t m) (entry, each-timer t m (λ w. w .since ≤ time) (λ k l. regions k))
 
 pub left-until-free : LeftUntilFree
-unfolding verdict left
-left-until-free t m time order = go (rule t m time) refl
-  where
-    go : (x : Rule) → rule t m time ≡ x →
-        (verdictBy (rule t m (time + leftBy (holdOf t (m .state)) (m .entry) time x)) ≡ 1)
-        × ((d : ℕ) → d < leftBy (holdOf t (m .state)) (m .entry) time x → verdictBy (rule t m (time + d)) ≡ 0)
-    go Running e = (
-      ap verdictBy (sym (frees _ (delayedOf t (m .state)) (m .polled) _ _ order e)),
-      λ d u. ap verdictBy (sym (holds _ (delayedOf t (m .state)) (m .polled) _ _ order e d u)),
+left-until-free t m time entry regions =
+    let falls = left-falls t m time entry regions in (
+      sym (none-left t m (time + left t m time) 0 (let e = falls (left t m time) in omega arith) refl),
+      λ d l. held-is-left t m (time + d) .1 (let e = falls d in omega arith),
     )
-    go Passed e = let same : time + 0 ≡ time = omega arith in (rw same (ap verdictBy e), λ d u. absurd (omega arith))
-    go NoHold e = let same : time + 0 ≡ time = omega arith in (rw same (ap verdictBy e), λ d u. absurd (omega arith))
 
 pub left-is-most : LeftIsMost
 left-is-most t m rs = is-most (after t) isTest (left t) m rs

@@ -2,7 +2,7 @@
 use mathlib.Core.Path.{_≡_, refl}
 use mathlib.Core.Logic.{_↔_}
 use mathlib.Core.Bool.{Bool, true, false, not}
-use Prim.Native.Nat.{ℕ, _-_, _<_, _≤_}
+use Prim.Native.Nat.{ℕ, _+_, _-_, _<_, _≤_}
 use native.Mathlib.Omega.{arith}
 use borrow.Author.Tests.{lt-ltb, le-ltb, le-leb, lt-leb, eq-eqb, ne-eqb, ltb-true, ltb-false, leb-true, leb-false}
 use Rattle.wire.specs.Choice.{_<?_, _≤?_, _=?_, _and_, _or_, if_then_else_}
@@ -11,7 +11,7 @@ use Rattle.wire.proofs.Choice.{never, both}
 use Rattle.table.specs.Table.{member}
 use Rattle.machine.specs.declared.Rule.{Rule}
 use Rattle.machine.specs.declared.Rule.the-variants.{Running, Passed, NoHold}
-use Rattle.machine.specs.Verdict.{ruleBy, ExactlyOne}
+use Rattle.machine.specs.Verdict.{ruleBy, leftBy, ExactlyOne}
 
 module _ (hold delayed polled entry time : ℕ) where
   -- ---- Which one is told
@@ -20,10 +20,7 @@ module _ (hold delayed polled entry time : ℕ) where
   unfolding ruleBy
   no-hold h = rw h refl
 
-  module _ (some-hold : hold ≡ 0 → ⊥) where
-    some : 0 < hold
-    some = omega arith
-
+  module _ (some : 0 < hold) where
     pub not-delayed : member delayed polled ≡ false → NoHold ≡ ruleBy hold delayed polled entry time
     unfolding ruleBy
     not-delayed h = rw (lt-ltb 0 hold some, h) refl
@@ -85,3 +82,17 @@ pub running-within : (hold delayed polled entry time : ℕ) → ruleBy hold dela
 running-within hold delayed polled entry time e =
     let yes = both (0 <? hold) _ (exactly-one hold delayed polled entry time .0 .1 e) in
     leb-true _ _ (both (member delayed polled) _ (yes .1) .1)
+
+-- What is left of a hold, without a rule: where there is a hold and the input is delayed, the rest until it is passed.
+pub left-is : (hold delayed polled entry time : ℕ) →
+    leftBy hold entry time (ruleBy hold delayed polled entry time) ≡ (if (0 <? hold) and member delayed polled then hold + 1 - (time - entry) else 0)
+unfolding ruleBy
+left-is hold delayed polled entry time =
+    rw (above-or-within (time - entry) hold) (go (0 <? hold) (member delayed polled) (time - entry ≤? hold) refl)
+  where
+    go : (a d c : Bool) → (time - entry ≤? hold) ≡ c →
+        leftBy hold entry time (toldBy a d c (not c)) ≡ (if a and d then hold + 1 - (time - entry) else 0)
+    go false d c e = refl
+    go true false c e = refl
+    go true true true e = omega (arith, leb-true (time - entry) hold e)
+    go true true false e = omega (arith, leb-false (time - entry) hold e)

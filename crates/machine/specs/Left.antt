@@ -7,7 +7,7 @@ use Rattle.table.specs.declared.Table.{Table}
 use Rattle.records.specs.declared.Record.{Record}
 use Rattle.records.specs.Record.{isTest}
 use Rattle.machine.specs.declared.Machine.{Machine}
-use Rattle.machine.specs.Machine.{verdict, left, after}
+use Rattle.machine.specs.Machine.{entryInto, verdict, left, after}
 use Rattle.machine.specs.Most.{MostOf}
 use Rattle.machine.specs.Run.{mostLeft}
 
@@ -15,9 +15,10 @@ use Rattle.machine.specs.Run.{mostLeft}
 abbrev pub HeldIsLeft : Type 0
 HeldIsLeft = (t : Table) (m : Machine) (time : ℕ) → (verdict t m time ≡ 0) ↔ (0 < left t m time)
 
--- So many ticks later the same machine's test is free, and at any time before that it is held.
+-- So many ticks later the same machine's test is free, and at any time before that it is held. The state and every region were entered
+-- by then.
 abbrev pub LeftUntilFree : Type 0
-LeftUntilFree = (t : Table) (m : Machine) (time : ℕ) → m .entry ≤ time →
+LeftUntilFree = (t : Table) (m : Machine) (time : ℕ) → m .entry ≤ time → ((k : ℕ) → entryInto (m .regions) k ≤ time) →
     (verdict t m (time + left t m time) ≡ 1) × ((d : ℕ) → d < left t m time → verdict t m (time + d) ≡ 0)
 
 -- Over a run no test has more than `mostLeft`, some test has it if there was one, and else it is 0.

@@ -5,5 +5,6 @@ pub mod Run
 pub mod Left
 pub mod Longest
 pub mod Walk
+pub mod AsTimers
 pub mod Turn
 pub mod Lent

@@ -3,7 +3,8 @@
 use mathlib.Core.Path.{_≡_}
 use mathlib.Core.Logic.{_↔_}
 use mathlib.Core.Bool.{Bool, true, not}
-use Prim.Native.Nat.{ℕ, _+_, _-_}
+use mathlib.Core.List.{List, [], _∷_}
+use Prim.Native.Nat.{ℕ, _+_, _-_, max}
 use Rattle.wire.specs.Choice.{_<?_, _≤?_, _=?_, _and_, _or_, if_then_else_}
 use Rattle.table.specs.Table.{member}
 use Rattle.machine.specs.declared.Rule.{Rule}
@@ -41,3 +42,33 @@ abbrev pub leftBy : (hold entry time : ℕ) → Rule → ℕ
 leftBy hold entry time Running = hold - (time - entry) + 1
 leftBy hold entry time Passed = 0
 leftBy hold entry time NoHold = 0
+
+-- ---- Over all that may hold
+
+-- What may hold a polled input: the state's own hold, or a timer. How long it holds, which inputs it delays in the state, and since when.
+pub record Watch : Type 0 where
+  pub hold : ℕ
+  pub delayed : ℕ
+  pub since : ℕ
+
+abbrev pub ruleOf : ℕ → ℕ → Watch → Rule
+ruleOf polled time w = ruleBy (w .hold) (w .delayed) polled (w .since) time
+
+abbrev pub leftOf : ℕ → ℕ → Watch → ℕ
+leftOf polled time w = leftBy (w .hold) (w .since) time (ruleOf polled time w)
+
+-- Running if one of them is running; passed if none is running and one is passed; else no hold.
+abbrev pub stronger : Rule → Rule → Rule
+stronger Running other = Running
+stronger Passed Running = Running
+stronger Passed Passed = Passed
+stronger Passed NoHold = Passed
+stronger NoHold other = other
+
+unfoldable pub strongest : (Watch → Rule) → List Watch → Rule
+strongest by [] = NoHold
+strongest by (w ∷ ws) = stronger (by w) (strongest by ws)
+
+unfoldable pub largest : (Watch → ℕ) → List Watch → ℕ
+largest by [] = 0
+largest by (w ∷ ws) = max (by w) (largest by ws)

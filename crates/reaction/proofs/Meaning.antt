@@ -16,7 +16,7 @@ use Rattle.sets.proofs.Members.{largest-covers, largest-reached, Reaching}
 use Rattle.table.specs.declared.Table.{Table}
 use Rattle.table.specs.Table.{nextOf, WellFormed}
 use Rattle.reaction.specs.declared.Answer.{Answer}
-use Rattle.reaction.specs.declared.Answer.the-variants.{Reacts, TableRefused, UnknownState, UnknownInput, LeavesStates}
+use Rattle.reaction.specs.declared.Answer.the-variants.{Reacts, TableRefused, HasTimers, UnknownState, UnknownInput, LeavesStates}
 use Rattle.reaction.specs.Reaction.{nextSet, weight, reactionTime, leavesAt, firstLeaving, reactionOf}
 use Rattle.reaction.proofs.First.{before-first, found-first}
 use Rattle.reaction.specs.Meaning.{Known, Unknown, Pairs, Comes, NextStates, Slowest, Reaction, Leaving, Means}
@@ -226,6 +226,7 @@ module _ (t : Table) (table : WellFormed t) (P A : ℕ) where
       let e = search-ends all (X .next) in
       rw (known-passes (t .states) P (X .states), known-passes (t .inputs) A (X .inputs), e) (same-reaction X (computed all e))
   only-answer (TableRefused refusal) X = absurd X
+  only-answer HasTimers X = absurd X
   only-answer UnknownState X = rw (unknown-fails (t .states) P X)
   only-answer UnknownInput X = rw (known-passes (t .states) P (X .0), unknown-fails (t .inputs) A (X .1))
   only-answer (LeavesStates place) X =

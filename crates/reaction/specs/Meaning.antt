@@ -7,7 +7,7 @@ use Rattle.sets.specs.Sets.{member}
 use Rattle.table.specs.declared.Table.{Table}
 use Rattle.table.specs.Table.{nextOf}
 use Rattle.reaction.specs.declared.Answer.{Answer}
-use Rattle.reaction.specs.declared.Answer.the-variants.{Reacts, TableRefused, UnknownState, UnknownInput, LeavesStates}
+use Rattle.reaction.specs.declared.Answer.the-variants.{Reacts, TableRefused, HasTimers, UnknownState, UnknownInput, LeavesStates}
 use Rattle.reaction.specs.Reaction.{weight}
 
 -- The set names only members that exist, those below n; it names one that does not.
@@ -62,10 +62,11 @@ pub record Leaving (t : Table) (P A place : ℕ) : Type 0 where
   pub is : place ≡ state * t .inputs + input
   pub smallest : (p a : ℕ) → Pairs P A p a → member P (nextOf t p a) ≡ false → place ≤ p * t .inputs + a
 
--- What each answer says of P and A. It is given on a table that passed its check, so that the table's refusal never comes.
+-- What each answer says of P and A. It is given on a table with holds that passed its check, so that neither of the first refusals comes.
 abbrev pub Means : Table → ℕ → ℕ → Answer → Type 0
 Means t P A (Reacts time target) = Reaction t P A time target
 Means t P A (TableRefused refusal) = ⊥
+Means t P A HasTimers = ⊥
 Means t P A UnknownState = Unknown (t .states) P
 Means t P A UnknownInput = Known (t .states) P × Unknown (t .inputs) A
 Means t P A (LeavesStates place) = Leaving t P A place

@@ -8,7 +8,7 @@ use Rattle.table.specs.declared.Table.{Table}
 use Rattle.table.specs.Table.{nextOf, holdOf, delays}
 use Rattle.table.specs.Under.{underTable}
 use Rattle.reaction.specs.declared.Answer.{Answer}
-use Rattle.reaction.specs.declared.Answer.the-variants.{Reacts, TableRefused, UnknownState, UnknownInput, LeavesStates}
+use Rattle.reaction.specs.declared.Answer.the-variants.{Reacts, TableRefused, HasTimers, UnknownState, UnknownInput, LeavesStates}
 
 -- next(P, A) is every next(p, a) with p in P and a in A.
 unfoldable pub nextSet : Table → ℕ → ℕ → ℕ
@@ -54,6 +54,10 @@ reactionOf t P A =
     else if firstLeaving t P A <? t .states * t .inputs then LeavesStates (firstLeaving t P A)
     else Reacts (reactionTime t P A) (nextSet t P A)
 
+-- The calculator is for tables with holds: 14 comes before its other refusals.
+unfoldable pub forHolds : {A : Type 0} → (timers : A) → (Table → A) → Table → A
+forHolds timers under t = if t .timers =? 0 then under t else timers
+
 -- On the bytes of a table.
 unfoldable pub reactOf : List ℕ → ℕ → ℕ → Answer
-reactOf s P A = underTable TableRefused (λ t. reactionOf t P A) s
+reactOf s P A = underTable TableRefused (forHolds HasTimers (λ t. reactionOf t P A)) s

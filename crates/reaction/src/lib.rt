@@ -5,9 +5,11 @@ ghost use Prim.Native.Nat.{ℕ, _≤_, max};
 ghost use lib.ListN.{getD};
 ghost use Rattle.wire.specs.Reply.{numberIn, placeIn};
 ghost use Rattle.sets.specs.Sets.{member};
-ghost use Rattle.table.specs.Table.{largestBound, longestHold, WellFormed};
+ghost use Rattle.table.specs.declared.Answer.the-variants.{Passes};
+ghost use Rattle.table.specs.Table.{largestBound, longestHold};
+ghost use Rattle.table.specs.Check.{tableAnswer, tableIn};
 ghost use Rattle.reaction.specs.Answer.{replyOf};
-ghost use Rattle.reaction.specs.Reaction.{weightOf, reactionOf, reactOf};
+ghost use Rattle.reaction.specs.Reaction.{weightOf, reactionOf, forHolds, reactOf};
 ghost use Rattle.reaction.specs.Meaning.{Pairs};
 ghost use Rattle.reaction.specs.Walks.{inRows, Walkable, From, Finds, weightIn, IsLargest};
 use sets::difference;
@@ -17,7 +19,6 @@ use sets::single;
 use sets::take_smallest;
 use sets::union;
 use sets::within;
-use table::Table;
 use table::next_state;
 use table::place_in_rows;
 
@@ -25,6 +26,7 @@ use table::place_in_rows;
 pub enum Answer {
     Reacts { time: u32, target: u32 },
     TableRefused(table::Answer),
+    HasTimers,
     UnknownState,
     UnknownInput,
     LeavesStates(usize),
@@ -38,6 +40,7 @@ impl Answer {
         match self {
             Answer::Reacts { .. } => 0,
             Answer::TableRefused(refusal) => refusal.number(),
+            Answer::HasTimers => 14,
             Answer::UnknownState => 9,
             Answer::UnknownInput => 9,
             Answer::LeavesStates(_) => 10,
@@ -50,6 +53,7 @@ impl Answer {
         match self {
             Answer::Reacts { .. } => 0,
             Answer::TableRefused(refusal) => refusal.place(),
+            Answer::HasTimers => 0,
             Answer::UnknownState => 0,
             Answer::UnknownInput => 1,
             Answer::LeavesStates(at) => at,
@@ -143,11 +147,15 @@ fn largest_weight<'a>(
     largest
 }
 
-// The answer on a table that passed its check.
-fn react_checked(t: Table, states: u32, inputs: u32) -> Answer
-    requires { ⌜ WellFormed t ⌝ }
-    ensures { λ r. ⌜ r ≡ reactionOf t states inputs ⌝ }
+// The answer on a table that passed its check, which is read here: to be handed in whole, it would be copied.
+fn react_checked(table: &[u8], states: u32, inputs: u32) -> Answer
+    requires { ⌜ tableAnswer (now table) ≡ Passes ⌝ }
+    ensures { λ r. ⌜ r ≡ forHolds Answer.HasTimers (λ t. reactionOf t states inputs) (tableIn (now (table .entry))) ⌝ }
 {
+    let t = table::read(table);
+    if t.timers != 0 {
+        return Answer::HasTimers;
+    }
     if !within(states, t.states) {
         return Answer::UnknownState;
     }
@@ -167,7 +175,7 @@ fn react_checked(t: Table, states: u32, inputs: u32) -> Answer
     }
 }
 
-// The entry, on any bytes. The table's refusals come first, then 9 for states, 9 for inputs, then 10.
+// The entry, on any bytes. The table's refusals come first, then 14, 9 for states, 9 for inputs, then 10.
 pub fn react(table: &[u8], states: u32, inputs: u32) -> Answer
     ensures { λ r. ⌜ r ≡ reactOf (now (table .entry)) states inputs ⌝ }
 {
@@ -175,5 +183,5 @@ pub fn react(table: &[u8], states: u32, inputs: u32) -> Answer
     let table::Answer::Passes = checked else {
         return Answer::TableRefused(checked);
     };
-    react_checked(table::read(table), states, inputs)
+    react_checked(table, states, inputs)
 }

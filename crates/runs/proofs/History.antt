@@ -18,7 +18,8 @@ use Rattle.machine.specs.declared.Rule.the-variants.{Running, Passed, NoHold}
 use Rattle.machine.specs.Verdict.{verdictBy}
 use Rattle.machine.specs.Machine.{start, rule, verdict, after}
 use Rattle.machine.proofs.Steps.{Taken}
-use Rattle.runs.proofs.Rules.{by-ta-3}
+use Rattle.runs.specs.Reaction.{NoRegions}
+use Rattle.runs.proofs.Rules.{by-hold}
 use Rattle.runs.proofs.Records.{repeats-or-changes, split, phases, entry-before}
 
 -- The polled input was that of a slot of this cycle.
@@ -28,7 +29,7 @@ pub record PolledIn (slots : ℕ → Machine) (polled start now : ℕ) : Type 0 
   pub past : at < now
   pub was : (slots at) .input ≡ polled
 
--- The polled input was held, so the cycle began before the hold was passed.
+-- The state's hold held the polled input, so the cycle began before the hold was passed.
 pub record Holding (t : Table) (state polled entry start : ℕ) : Type 0 where
   pub some : 0 < holdOf t state
   pub delayed : delays t state polled ≡ true
@@ -40,12 +41,13 @@ pub record History (t : Table) (slots : ℕ → Machine) (m : Machine) (now : �
   pub state : (k : ℕ) → m .start ≤ k → k < now → (slots k) .state ≡ m .state
   pub input : (k : ℕ) → m .change ≤ k → k < now → (slots k) .input ≡ m .input
   pub polled : 0 < m .phase → PolledIn slots (m .polled) (m .start) now
-  pub held : m .phase ≡ 2 → Holding t (m .state) (m .polled) (m .entry) (m .start)
+  pub held : NoRegions t → m .phase ≡ 2 → Holding t (m .state) (m .polled) (m .entry) (m .start)
 
-holding : (t : Table) (m : Machine) (time : ℕ) → m .start < time → 2 + verdict t m time ≡ 2 → Holding t (m .state) (m .polled) (m .entry) (m .start)
+holding : (t : Table) (m : Machine) (time : ℕ) → m .start < time → NoRegions t → 2 + verdict t m time ≡ 2 →
+    Holding t (m .state) (m .polled) (m .entry) (m .start)
 unfolding verdict
-holding t m time l two =
-    let o = by-ta-3 t m time .0 (held-by (rule t m time) two) in
+holding t m time l none two =
+    let o = by-hold t none m time .0 .0 (held-by (rule t m time) two) in
     record { some = o .1; delayed = o .2; begun = omega (arith, o .0) }
   where
     held-by : (x : Rule) → 2 + verdictBy x ≡ 2 → x ≡ Running
@@ -61,7 +63,7 @@ module _ (t : Table) (slots : ℕ → Machine) where
     state = λ k l u. absurd (omega arith);
     input = λ k l u. absurd (omega arith);
     polled = λ l. absurd (omega arith);
-    held = λ e. absurd (omega arith);
+    held = λ none e. absurd (omega arith);
   }
 
   -- Up to the next record every slot shows the machine itself.
@@ -100,7 +102,7 @@ module _ (t : Table) (slots : ℕ → Machine) where
         state = h .state;
         input = h .input;
         polled = λ l. record { at = time - 1; begun = omega arith; past = omega arith; was = h .input (time - 1) (omega arith) (omega arith) };
-        held = λ e. absurd (omega arith);
+        held = λ none e. absurd (omega arith);
       }
   onward m (Test time verdict) taken h =
       let one : m .phase ≡ 1 = phases (m .phase) .test (taken .in-phase) in
@@ -119,7 +121,7 @@ module _ (t : Table) (slots : ℕ → Machine) where
     state = λ k l u. absurd (omega arith);
     input = h .input;
     polled = λ l. absurd (omega arith);
-    held = λ e. absurd (omega arith);
+    held = λ none e. absurd (omega arith);
   }
   onward m (End time) taken h = record {
     entered = h .entered;

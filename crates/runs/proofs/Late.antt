@@ -53,9 +53,10 @@ module _ {t : Table} {P A N : ℕ → Bool} {w : ℕ → ℕ} {c : ℕ} (enough 
     stay : m .phase ≡ 2 → OnCourse m → Ticked
     stay two (home n) = home (rw (state-kept t m two) n)
     stay two (due u rest by-entry by-cycle paid reach) =
-        let d = h .held two in
+        let same = state-kept t m two in
+        let d = h .held (enough .no-regions) two in
         let heavy = enough .weights .delayed (m .state) (m .polled) polled (d .some) (d .delayed) in
-        due u rest (rw (entry-kept t m two now, state-kept t m two) by-entry) (omega (arith, d .begun)) paid (rw (state-kept t m two) reach)
+        due u rest (rw (entry-kept t m same now, same) by-entry) (omega (arith, d .begun)) paid (rw same reach)
 
     -- Free: a move.
     move : m .phase ≡ 3 → OnCourse m → Ticked

@@ -1,9 +1,11 @@
 pub mod Records
 pub mod Rules
+pub mod Clocks
 pub mod Edges
 pub mod Automaton
 pub mod History
 pub mod Slots
+pub mod Entries
 pub mod Soon
 pub mod Late
 pub mod OneMove

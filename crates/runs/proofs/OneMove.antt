@@ -10,6 +10,7 @@ use Rattle.runs.proofs.Late.{not-too-late}
 
 one-suffices : {t : Table} {P A N : ℕ → Bool} {w : ℕ → ℕ} {c : ℕ} → OneMove t P A N w c → Suffices t P A N w c
 one-suffices {t} {P} {A} {N} {w} {c} one = record {
+  no-regions = one .no-regions;
   bound-positive = one .bound-positive;
   weights = one .weights;
   stays = λ q a n h. one .has q a (one .inside q n) h;

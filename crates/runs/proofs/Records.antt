@@ -2,22 +2,23 @@
 use mathlib.Core.Path.{_≡_, refl, sym}
 use mathlib.Core.Logic.{_⊎_, inl, inr, ⊎-elim}
 use mathlib.Core.List.{List, _∷_}
-use mathlib.Core.Bool.{Bool, true, false}
+use mathlib.Core.Bool.{Bool, true, false, not}
 use Prim.Native.Nat.{ℕ, zero, suc, _<_, _≤_}
 use native.Mathlib.Omega.{arith}
-use borrow.Author.Tests.{leb-true, leb-false, eq-eqb, eqb-true, eqb-false}
-use Rattle.wire.specs.Choice.{_≤?_, _=?_, if_then_else_}
+use borrow.Author.Tests.{leb-true, leb-false, eq-eqb, ne-eqb, eqb-true, eqb-false}
+use Rattle.wire.specs.Choice.{_≤?_, _=?_, _and_, if_then_else_}
 use Rattle.wire.proofs.Choice.{never}
 use Rattle.table.specs.declared.Table.{Table}
-use Rattle.table.specs.Table.{nextOf}
+use Rattle.table.specs.Table.{nextOf, inRegion}
 use Rattle.machine.specs.declared.Machine.{Machine}
 use Rattle.records.specs.declared.Record.{Record}
 use Rattle.records.specs.declared.Record.the-variants.{Change, Poll, Test, Tick, End}
 use Rattle.records.specs.Record.{timeOf}
-use Rattle.machine.specs.Machine.{allowed, stateAfter, lastChange, after}
+use Rattle.machine.specs.Machine.{start, allowed, entryInto, stateAfter, lastChange, regionsAfter, after, entered}
 use Rattle.machine.specs.Run.{Runs}
 use Rattle.machine.proofs.Laws.{repeat-leaves, change-counts, from-phase-3, stays}
 use Rattle.machine.proofs.Steps.{Taken, step-taken}
+use Rattle.machine.proofs.Watches.{four, region-after}
 
 pub split : (n k : ℕ) → (n ≤ k) ⊎ (k < n)
 split n k = go (n ≤? k) refl
@@ -25,6 +26,14 @@ split n k = go (n ≤? k) refl
     go : (b : Bool) → (n ≤? k) ≡ b → (n ≤ k) ⊎ (k < n)
     go true e = inl (leb-true n k e)
     go false e = inr (leb-false n k e)
+
+pub not-both : (b : Bool) → (b and not b) ≡ false
+not-both true = refl
+not-both false = refl
+
+either-before : (b : Bool) {x y time : ℕ} → x ≤ time → y ≤ time → (if b then x else y) ≤ time
+either-before true l k = l
+either-before false l k = k
 
 -- The phases in which a poll, a test and a tick may come.
 pub record Phases (p : ℕ) : Type 0 where
@@ -54,6 +63,8 @@ repeats-or-changes m time input = go (input =? m .input) refl
 pub change-before : (m : Machine) (time input : ℕ) → m .change ≤ time → lastChange m time input ≤ time
 change-before m time input l = ⊎-elim (λ x. rw (x .1) l) (λ x. omega (arith, x .1)) (repeats-or-changes m time input)
 
+-- ---- Any record
+
 module _ (t : Table) (m : Machine) where
   pub time-after : (r : Record) → (after t m r) .time ≡ timeOf r
   time-after (Change time input) = refl
@@ -65,20 +76,33 @@ module _ (t : Table) (m : Machine) where
   pub first-taken : (r : Record) (rs : List Record) (last : Machine) → Runs t m (r ∷ rs) last → Taken t m r
   first-taken r rs last run = step-taken t m r (after t m r) (run .0) .0
 
-  -- ---- The tick
+-- ---- The tick
 
+pub first-entry : (k : ℕ) → k < 4 → entryInto (start 0 0 .regions) k ≡ 0
+first-entry = four (λ k. entryInto (start 0 0 .regions) k ≡ 0) refl refl refl refl
+
+module _ (t : Table) (m : Machine) where
   pub entry-before : (time : ℕ) → m .entry ≤ time → (if stateAfter t m =? m .state then m .entry else time) ≤ time
-  entry-before time l = go (stateAfter t m =? m .state)
-    where
-      go : (b : Bool) → (if b then m .entry else time) ≤ time
-      go true = l
-      go false = omega arith
+  entry-before time l = either-before (stateAfter t m =? m .state) l (omega arith)
+
+  pub region-before : (time k : ℕ) → k < 4 → entryInto (m .regions) k ≤ time → entryInto (regionsAfter t m time) k ≤ time
+  unfolding entered
+  region-before time k small l = rw (region-after t m time k small) (either-before (inRegion t k (stateAfter t m) and not (inRegion t k (m .state))) (omega arith) l)
 
   pub state-kept : m .phase ≡ 2 → stateAfter t m ≡ m .state
   state-kept two = sym (stays t m (λ three. omega arith))
 
-  pub entry-kept : m .phase ≡ 2 → (time : ℕ) → (if stateAfter t m =? m .state then m .entry else time) ≡ m .entry
-  entry-kept two time = rw (eq-eqb (stateAfter t m) (m .state) (state-kept two))
-
   pub state-next : m .phase ≡ 3 → stateAfter t m ≡ nextOf t (m .state) (m .polled)
   state-next three = sym (from-phase-3 t m three (nextOf t (m .state) (m .polled)) refl)
+
+  pub entry-moved : (stateAfter t m ≡ m .state → ⊥) → (time : ℕ) → (if stateAfter t m =? m .state then m .entry else time) ≡ time
+  entry-moved differs time = rw (ne-eqb (stateAfter t m) (m .state) differs)
+
+  -- A tick that leaves the state as it is enters nothing.
+  module _ (same : stateAfter t m ≡ m .state) (time : ℕ) where
+    pub entry-kept : (if stateAfter t m =? m .state then m .entry else time) ≡ m .entry
+    entry-kept = rw (eq-eqb (stateAfter t m) (m .state) same)
+
+    pub regions-kept : regionsAfter t m time ≡ m .regions
+    unfolding regionsAfter entered
+    regions-kept = simp (same, not-both)

@@ -19,14 +19,14 @@ use Rattle.runs.proofs.History.{History, at-first, until, onward}
 
 module _ (t : Table) (k : ℕ) where
   -- Times never fall: from the first record past k on, none counts.
-  slot-before : (rs : List Record) (r : Record) (m shown last : Machine) → Runs t m (r ∷ rs) last → k < timeOf r → slot t shown (r ∷ rs) k ≡ shown
+  pub slot-before : (rs : List Record) (r : Record) (m shown last : Machine) → Runs t m (r ∷ rs) last → k < timeOf r → slot t shown (r ∷ rs) k ≡ shown
   unfolding slot
   slot-before [] r m shown last run past = rw lt-leb
   slot-before (r′ ∷ rs) r m shown last run past =
       let taken = first-taken t (after t m r) r′ rs last (run .1) in
       rw (lt-leb (timeOf r) k past) (slot-before rs r′ (after t m r) shown last (run .1) (omega (arith, time-after t m r, taken .in-order)))
 
-  slot-after : (rs : List Record) (r : Record) (m : Machine) → timeOf r ≤ k → slot t m (r ∷ rs) k ≡ slot t (after t m r) rs k
+  pub slot-after : (rs : List Record) (r : Record) (m : Machine) → timeOf r ≤ k → slot t m (r ∷ rs) k ≡ slot t (after t m r) rs k
   unfolding slot
   slot-after rs r m l = rw le-leb
 

@@ -1,9 +1,13 @@
--- What a calculated time has to cover so that no reaction is too late. A set of states or of inputs is a test.
+-- What a calculated time has to cover so that no reaction is too late, in a table without timers. A set of states or of inputs is a test.
 use mathlib.Core.Path.{_≡_}
 use mathlib.Core.Bool.{Bool, true, false}
 use Prim.Native.Nat.{ℕ, _+_, _-_, _*_, _<_, _≤_}
 use Rattle.table.specs.declared.Table.{Table}
-use Rattle.table.specs.Table.{holdOf, delays, nextOf}
+use Rattle.table.specs.Table.{holdOf, delays, nextOf, regionOf}
+
+-- No timer holds in any state: every region is empty.
+abbrev pub NoRegions : Table → Type 0
+NoRegions t = (k : ℕ) → regionOf t k ≡ 0
 
 -- Weights that are large enough: E in every state, and hold + 2E - 1 where an input of A is delayed. Those of the calculator are.
 pub record Weights (t : Table) (A : ℕ → Bool) (w : ℕ → ℕ) : Type 0 where
@@ -17,6 +21,7 @@ pub data Reach (t : Table) (A N : ℕ → Bool) (w : ℕ → ℕ) : ℕ → ℕ 
 
 -- The time c suffices, by any number of moves: N is not left again, and is reached from P with weights of at most c + 1 - E.
 pub record Suffices (t : Table) (P A N : ℕ → Bool) (w : ℕ → ℕ) (c : ℕ) : Type 0 where
+  pub no-regions : NoRegions t
   pub bound-positive : 1 ≤ t .bound
   pub weights : Weights t A w
   pub stays : (q a : ℕ) → N q ≡ true → A a ≡ true → N (nextOf t q a) ≡ true
@@ -26,6 +31,7 @@ pub record Suffices (t : Table) (P A N : ℕ → Bool) (w : ℕ → ℕ) (c : �
 -- One move, as the calculator has it: N holds every next(p, a) and nothing outside P, and c is at least E, and at least E + the weight of
 -- each state in P outside N.
 pub record OneMove (t : Table) (P A N : ℕ → Bool) (w : ℕ → ℕ) (c : ℕ) : Type 0 where
+  pub no-regions : NoRegions t
   pub bound-positive : 1 ≤ t .bound
   pub weights : Weights t A w
   pub has : (p a : ℕ) → P p ≡ true → A a ≡ true → N (nextOf t p a) ≡ true

@@ -8,7 +8,7 @@ use Rattle.wire.proofs.Choice.{never}
 use Rattle.table.proofs.Answer as AnswerT
 use Rattle.table.specs.declared.Answer.{Answer}
 use Rattle.table.specs.declared.Answer.the-variants.{Passes, RunsOut, WrongTagOrLength, CountOutOfRange, BoundOutOfRange}
-use Rattle.table.specs.declared.Answer.the-variants.{EntryOutOfRange, HoldTooLong, UnknownInputDelayed, IdleSet, BytesAfter}
+use Rattle.table.specs.declared.Answer.the-variants.{EntryOutOfRange, HoldTooLong, UnknownInputDelayed, IdleSet, UnknownMember, TimerOutOfRange, BytesAfter}
 use Rattle.table.specs.Answer.{passes?, _or-else_, _and-then_}
 
 -- What a `let .. else` on `Passes` tells where it goes on, and in its else.
@@ -16,7 +16,7 @@ abbrev pub Passed : Answer → Type 0
 Passed a = OneOf (0 ∷ []) (tagOf AnswerT.the-type a)
 
 abbrev pub Refused : Answer → Type 0
-Refused a = OneOf (1 ∷ 2 ∷ 3 ∷ 4 ∷ 5 ∷ 6 ∷ 7 ∷ 8 ∷ 9 ∷ []) (tagOf AnswerT.the-type a)
+Refused a = OneOf (1 ∷ 2 ∷ 3 ∷ 4 ∷ 5 ∷ 6 ∷ 7 ∷ 8 ∷ 9 ∷ 10 ∷ 11 ∷ []) (tagOf AnswerT.the-type a)
 
 -- An answer passes or refuses.
 pub decided : {A : Type 0} (a : Answer) → (a ≡ Passes → A) → (passes? a ≡ false → (Passed a → ⊥) → A) → A
@@ -29,13 +29,15 @@ decided (EntryOutOfRange at) passed refused = refused refl (miss (0 ∷ []) 5 tt
 decided (HoldTooLong at) passed refused = refused refl (miss (0 ∷ []) 6 tt)
 decided (UnknownInputDelayed at) passed refused = refused refl (miss (0 ∷ []) 7 tt)
 decided (IdleSet at) passed refused = refused refl (miss (0 ∷ []) 8 tt)
-decided (BytesAfter at) passed refused = refused refl (miss (0 ∷ []) 9 tt)
+decided (UnknownMember at) passed refused = refused refl (miss (0 ∷ []) 9 tt)
+decided (TimerOutOfRange at) passed refused = refused refl (miss (0 ∷ []) 10 tt)
+decided (BytesAfter at) passed refused = refused refl (miss (0 ∷ []) 11 tt)
 
 pub let-pass : {a x : Answer} → x ≡ a → Passed x → a ≡ Passes
 let-pass {x = x} is h = decided x (λ e. sym is ∙ e) (λ r other. absurd (other h))
 
 pub refuses : (a : Answer) → Refused a → passes? a ≡ false
-refuses a h = decided a (λ e. absurd (miss (1 ∷ 2 ∷ 3 ∷ 4 ∷ 5 ∷ 6 ∷ 7 ∷ 8 ∷ 9 ∷ []) 0 tt (rw e at h))) (λ r other. r)
+refuses a h = decided a (λ e. absurd (miss (1 ∷ 2 ∷ 3 ∷ 4 ∷ 5 ∷ 6 ∷ 7 ∷ 8 ∷ 9 ∷ 10 ∷ 11 ∷ []) 0 tt (rw e at h))) (λ r other. r)
 
 pub refusal-stands : {A : Type 0} (a : Answer) → passes? a ≡ false → a ≡ Passes → A
 refusal-stands a r e = never (sym r ∙ ap passes? e)

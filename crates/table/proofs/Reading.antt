@@ -1,18 +1,22 @@
 -- Arrays filled from bytes that passed make the table.
 use mathlib.Core.Path.{_≡_}
 use mathlib.Core.List.{List}
-use Prim.Native.Nat.{ℕ}
+use Prim.Native.Nat.{ℕ, _*_}
+use Rattle.wire.specs.Choice.{_=?_, if_then_else_}
 use Rattle.table.specs.declared.Counts.{Counts}
 use Rattle.table.specs.declared.Places.{Places}
 use Rattle.table.specs.Entries.{filled, zeros}
-use Rattle.table.specs.Check.{byteEntry, wordEntry, countsIn, boundIn, PlacesOf, tableOf, tableIn}
+use Rattle.table.specs.Check.{byteEntry, wordEntry, countsIn, boundIn, PlacesOf, timerSets, timersIn, tableWith, tableIn}
 
 pub table-made : (s : List ℕ) (c : Counts) (p : Places) → c ≡ countsIn s → PlacesOf c p →
-    (bound : ℕ) (output next hold delayed : List ℕ) → bound ≡ boundIn s →
+    (bound timers holders sets-at : ℕ) (output next hold delayed timing sets : List ℕ) → bound ≡ boundIn s →
+    timers ≡ timersIn c s → holders ≡ (if timers =? 0 then c .states else 0) → sets-at ≡ timerSets c timers →
     output ≡ filled (byteEntry s 14) (c .states) (zeros 32) →
     next ≡ filled (byteEntry s (p .next)) (p .pairs) (zeros 1024) →
-    hold ≡ filled (wordEntry s (p .hold)) (c .states) (zeros 32) →
-    delayed ≡ filled (wordEntry s (p .delayed)) (c .states) (zeros 32) →
+    hold ≡ filled (wordEntry s (p .hold)) holders (zeros 32) →
+    delayed ≡ filled (wordEntry s (p .delayed)) holders (zeros 32) →
+    timing ≡ filled (wordEntry s (p .hold)) (2 * timers) (zeros 8) →
+    sets ≡ filled (wordEntry s sets-at) (c .states * timers) (zeros 128) →
     record {
       states = c .states;
       inputs = c .inputs;
@@ -23,7 +27,10 @@ pub table-made : (s : List ℕ) (c : Counts) (p : Places) → c ≡ countsIn s �
       next = next;
       hold = hold;
       delayed = delayed;
+      timers = timers;
+      timing = timing;
+      sets = sets;
     } ≡ tableIn s
-unfolding tableOf
-table-made s c p counts places bound output next hold delayed b o n h d =
-    rw (b, o, n, h, d, places .next, places .pairs, places .hold, places .delayed, counts)
+unfolding tableWith
+table-made s c p counts places bound timers holders sets-at output next hold delayed timing sets b ts hs at o n h d l w =
+    rw (b, o, n, h, d, l, w, hs, at, ts, places .next, places .pairs, places .hold, places .delayed, counts)

@@ -1,27 +1,32 @@
 -- One field, outcome by outcome, and the loop that checks a field's entries in order, whatever they are.
-use mathlib.Core.Path.{_≡_, refl, sym, _∙_}
+use mathlib.Core.Path.{_≡_, refl, sym, ap, _∙_}
 use mathlib.Core.List.{List, [], _∷_}
-use mathlib.Core.Bool.{Bool, true, false, _&&_, _||_}
-use Prim.Native.Nat.{ℕ, zero, suc, _+_, _-_, _<_, _≤_}
+use mathlib.Core.Bool.{Bool, true, false, not, _&&_, _||_}
+use Prim.Native.Nat.{ℕ, zero, suc, _+_, _-_, _*_, _/_, _^_, _<_, _≤_}
 use native.Mathlib.Nat.{not-suc-le-zero}
 use native.Mathlib.Omega.{arith}
-use borrow.Author.Tests.{eq-eqb, eqb-true, le-ltb, lt-ltb, ltb-true}
+use borrow.Author.Tests.{eq-eqb, eqb-true, le-leb, leb-true, le-ltb, lt-ltb, ltb-true, ltb-false}
 use denote.Enum.Declared.{tagOf}
 use types.Run.{OneOf, miss}
 use lib.ListN.{length}
-use Rattle.wire.specs.Choice.{_<?_, _=?_}
-use Rattle.wire.specs.Field.{fieldAt}
+use Rattle.wire.specs.Choice.{_<?_, _≤?_, _=?_, if_then_else_}
+use Rattle.wire.specs.Field.{byteAt, number16At, number32At, fieldAt}
 use Rattle.wire.specs.declared.Field.{Field}
 use Rattle.wire.specs.declared.Field.the-variants.{Whole, RunOut}
-use Rattle.wire.proofs.Choice.{both}
-use Rattle.wire.proofs.Laws.{WholeAt, whole-at}
+use Rattle.wire.proofs.Choice.{never, both}
+use Rattle.wire.proofs.Laws.{WholeAt, whole-at, whole-is}
 use Rattle.wire.proofs.Field as FieldT
 use Rattle.table.specs.declared.Answer.{Answer}
-use Rattle.table.specs.declared.Answer.the-variants.{Passes, RunsOut, WrongTagOrLength, UnknownInputDelayed, IdleSet}
+use Rattle.table.specs.declared.Answer.the-variants.{Passes, RunsOut, WrongTagOrLength, HoldTooLong, UnknownInputDelayed, IdleSet}
+use Rattle.table.specs.declared.Answer.the-variants.{UnknownMember, TimerOutOfRange, BytesAfter}
 use Rattle.table.specs.Answer.{passes?, _or-else_, _and-then_}
 use Rattle.table.specs.Entries.{entriesFrom}
-use Rattle.table.specs.Check.{named, fieldAnswer, rowAnswer, below, setAnswer}
-use Rattle.table.proofs.Answers.{Passed, Refused, let-pass, refusal-stands, holds, fails, told}
+use Rattle.table.specs.Check.{named, inRange, fieldAnswer, rowAnswer, below, badWord, setAnswer, timerAnswer, timerEntry, holdField, holdsAnswer, timersAnswer, tagged, timingAnswer}
+use Rattle.table.specs.Check.{bytesAnswer, wordsAnswer, setsAnswer, PlacesOf, entriesAnswer}
+use Rattle.table.specs.declared.Counts.{Counts}
+use Rattle.table.specs.declared.Places.{Places}
+use Rattle.table.specs.Table.{longestHold, mostTimers}
+use Rattle.table.proofs.Answers.{Passed, Refused, let-pass, refuses, refusal-stands, holds, fails, told}
 use Rattle.table.proofs.Answers.{refusal-stops, stops, goes-on, past, first-passes, rest-passes}
 
 module _ (s : List ℕ) (at tag size : ℕ) (f : Field) (is : f ≡ fieldAt s at) where
@@ -84,6 +89,13 @@ module _ {s : List ℕ} {at tag size : ℕ} {entry : ℕ → Answer} {n k : ℕ}
     pub good-entry : entry k ≡ Passes → Checking s at tag size entry n (k + 1)
     good-entry e = record { room = inv .room; here = goes-on e refl ∙ from-here }
 
+    -- The same where a function has checked the entry.
+    pub refused-entry : (a : Answer) → a ≡ entry k → Refused a → a ≡ rowAnswer s at tag size entry n
+    refused-entry a is h = bad-entry a is (refuses a h)
+
+    pub passed-entry : (a : Answer) → a ≡ entry k → Passed a → Checking s at tag size entry n (k + 1)
+    passed-entry a is h = good-entry (let-pass is h)
+
 -- ---- A row that passes
 
 pub each-passes : (entry : ℕ → Answer) (n i : ℕ) → entriesFrom entry n i ≡ Passes → (k : ℕ) → k < n → entry (i + k) ≡ Passes
@@ -102,6 +114,10 @@ module _ (s : List ℕ) (at tag size : ℕ) (entry : ℕ → Answer) (n : ℕ) (
   pub row-each : (k : ℕ) → k < n → entry k ≡ Passes
   unfolding rowAnswer
   row-each k h = let z : 0 + k ≡ k = omega arith in rw z at (each-passes entry n 0 (rest-passes _ _ e) k h)
+
+pub row-fits : (s : List ℕ) (at tag size : ℕ) (entry : ℕ → Answer) (n : ℕ) {a : Answer} → a ≡ rowAnswer s at tag size entry n → Passed a →
+    at + 3 + size ≤ length s
+row-fits s at tag size entry n is h = row-stands s at tag size entry n (let-pass is h) .fits
 
 -- ---- Entries that a limit decides
 
@@ -144,3 +160,102 @@ set-passes old hold set limit place low none = sym (known-inputs old hold set li
     go true h idle = refl
     go false zero idle = eq-eqb set 0 (idle refl refl)
     go false (suc h) idle = rw (lt-ltb 0 (suc h) (omega arith))
+
+-- ---- Words whose field names what a bad one is
+
+pub bad-word-refuses : (tag place : ℕ) → passes? (badWord tag place) ≡ false
+unfolding badWord
+bad-word-refuses tag place = go (tag =? 0x05)
+  where
+    go : (b : Bool) → passes? (if b then HoldTooLong place else UnknownMember place) ≡ false
+    go true = refl
+    go false = refl
+
+-- ---- Timers
+
+pub in-range : (low high x : ℕ) → inRange low high x ≡ true → (low ≤ x) × (x ≤ high)
+in-range low high x e =
+    let b = both (low ≤? x) (x ≤? high) e in
+    (leb-true low x (b .0), leb-true x high (b .1))
+
+pub between : (low high x : ℕ) → (low ≤ x) × (x ≤ high) → inRange low high x ≡ true
+between low high x h = rw (le-leb low x (h .0), le-leb x high (h .1))
+
+-- The k-th timer, as the code finds it.
+pub timer-there : (s : List ℕ) (at limit k : ℕ) →
+    timerAnswer (number32At s (at + 3 + 8 * k)) (number32At s (at + 3 + 8 * k + 4)) limit (at + 3 + 8 * k) ≡ timerEntry s at limit k
+timer-there s at limit k =
+    let length : at + 3 + 4 * (2 * k) ≡ at + 3 + 8 * k = omega arith in
+    let region : at + 3 + 4 * (2 * k + 1) ≡ at + 3 + 8 * k + 4 = omega arith in
+    rw (length, region) refl
+
+module _ (length region limit place : ℕ) where
+  pub timer-known : timerAnswer length region limit place ≡ Passes → (1 ≤ length) × (length ≤ longestHold) × (region < limit)
+  unfolding timerAnswer
+  timer-known e =
+      let l = in-range 1 longestHold length (told _ (TimerOutOfRange place) refl (first-passes _ _ e)) in
+      (l .0, l .1, ltb-true region limit (told _ (UnknownMember (place + 4)) refl (rest-passes _ _ e)))
+
+  pub timer-passes : (1 ≤ length) × (length ≤ longestHold) → region < limit → timerAnswer length region limit place ≡ Passes
+  unfolding timerAnswer
+  timer-passes l r = sym (goes-on (holds _ (between 1 longestHold length l)) (sym (holds (UnknownMember (place + 4)) (lt-ltb region limit r))))
+
+-- ---- The kind of a table
+
+pub whole-tagged : (s : List ℕ) (at tag size : ℕ) → WholeAt s at tag size → tagged (fieldAt s at) ≡ (tag =? 0x07)
+unfolding tagged
+whole-tagged s at tag size whole = rw (← whole-is s at tag size whole) refl
+
+-- A field that tells its kind has its first three bytes.
+pub tagged-there : (s : List ℕ) (at : ℕ) → tagged (fieldAt s at) ≡ true → at + 3 ≤ length s
+unfolding tagged fieldAt
+tagged-there s at e = go (length s - at <? 3) refl e
+  where
+    go : (b : Bool) → (length s - at <? 3) ≡ b →
+        tagged (if b then RunOut else if length s - at - 3 <? number16At s (at + 1) then RunOut else Whole (byteAt s at) (number16At s (at + 1))) ≡ true →
+        at + 3 ≤ length s
+    go true is t = absurd (never t)
+    go false is t = let l = ltb-false (length s - at) 3 is in omega arith
+
+pub untagged : (s : List ℕ) (at : ℕ) (f : Field) → f ≡ fieldAt s at → OneOf (1 ∷ []) (tagOf FieldT.the-type f) → false ≡ tagged (fieldAt s at)
+unfolding tagged
+untagged s at f is h = go f h ∙ ap tagged is
+  where
+    go : (g : Field) → OneOf (1 ∷ []) (tagOf FieldT.the-type g) → false ≡ tagged g
+    go (Whole tag size) k = absurd (miss (1 ∷ []) 0 tt k)
+    go RunOut k = refl
+
+-- A number of timers that passed.
+pub number-known : (n at : ℕ) → (inRange 1 mostTimers n or-else WrongTagOrLength at) ≡ Passes → (1 ≤ n) × (n ≤ mostTimers)
+number-known n at e = in-range 1 mostTimers n (told _ (WrongTagOrLength at) refl e)
+
+-- Which fields are looked at, by the kind that the code has found.
+module _ (old : Bool) (c : Counts) (s : List ℕ) (at : ℕ) (there : at ≡ holdField c) (kind : Bool) (is : kind ≡ tagged (fieldAt s at)) where
+  pub as-timers : (not old && kind) ≡ true → (n : ℕ) → n ≡ number16At s (at + 1) / 8 → (r : Answer) → r ≡ timersAnswer c n s → r ≡ timingAnswer old c s
+  unfolding timingAnswer
+  as-timers e n claimed r told′ = let f = rw (is, there) at e in rw (f, told′, claimed, there) refl
+
+  pub as-holds : (not old && kind) ≡ false → (r : Answer) → r ≡ holdsAnswer old c s → r ≡ timingAnswer old c s
+  unfolding timingAnswer
+  as-holds e r told′ = let f = rw (is, there) at e in rw (f, told′) refl
+
+-- Two fields at the places that the code has found, the first of which passed: 05 and 06, and 03 and 04.
+module _ (old : Bool) (c : Counts) (p : Places) (s : List ℕ) (places : PlacesOf c p) (a b : Answer) (passed : Passed a) where
+  module _ (limit : ℕ) (is : limit ≡ 2 ^ c .inputs) (holds : a ≡ wordsAnswer s (p .hold) 0x05 (c .states) (longestHold + 1))
+      (sets : b ≡ setsAnswer old s (p .hold) (p .delayed) (c .states) limit) where
+    pub no-sets : Refused b → b ≡ holdsAnswer old c s
+    unfolding holdsAnswer
+    no-sets h = past (rw (places .hold) at holds) passed (stops _ (rw (places .hold, places .delayed, is) at sets) h)
+
+    pub table-ends : Passed b → (r : Answer) → r ≡ (length s ≤? p .end or-else BytesAfter (p .end)) → r ≡ holdsAnswer old c s
+    unfolding holdsAnswer
+    table-ends h r e = past (rw (places .hold) at holds) passed (past (rw (places .hold, places .delayed, is) at sets) h (rw (places .end) at e))
+
+  module _ (outputs : a ≡ bytesAnswer s 14 0x03 (c .states) (c .outputs)) (next : b ≡ bytesAnswer s (p .next) 0x04 (p .pairs) (c .states)) where
+    pub no-next : Refused b → b ≡ entriesAnswer old c s
+    unfolding entriesAnswer
+    no-next h = past outputs passed (stops _ (rw (places .next, places .pairs) at next) h)
+
+    pub timing-left : Passed b → (r : Answer) → r ≡ timingAnswer old c s → r ≡ entriesAnswer old c s
+    unfolding entriesAnswer
+    timing-left h r e = past outputs passed (past (rw (places .next, places .pairs) at next) h e)

@@ -5,7 +5,7 @@ use Rattle.wire.specs.Choice.{_=?_, if_then_else_}
 use Rattle.wire.specs.Reply.{Reply, gives, refuses, numberIn}
 use Rattle.table.specs.declared.Answer.{Answer}
 use Rattle.table.specs.declared.Answer.the-variants.{Passes, RunsOut, WrongTagOrLength, CountOutOfRange, BoundOutOfRange}
-use Rattle.table.specs.declared.Answer.the-variants.{EntryOutOfRange, HoldTooLong, UnknownInputDelayed, IdleSet, BytesAfter}
+use Rattle.table.specs.declared.Answer.the-variants.{EntryOutOfRange, HoldTooLong, UnknownInputDelayed, IdleSet, UnknownMember, TimerOutOfRange, BytesAfter}
 
 infixr 20 _and-then_
 infix 22 _or-else_
@@ -19,6 +19,8 @@ replyOf (EntryOutOfRange at) = refuses 5 at
 replyOf (HoldTooLong at) = refuses 6 at
 replyOf (UnknownInputDelayed at) = refuses 7 at
 replyOf (IdleSet at) = refuses 11 at
+replyOf (UnknownMember at) = refuses 12 at
+replyOf (TimerOutOfRange at) = refuses 13 at
 replyOf (BytesAfter at) = refuses 8 at
 
 abbrev pub passes? : Answer → Bool

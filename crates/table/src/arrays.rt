@@ -1,7 +1,7 @@
 // The entries of a field that passed, read into an array. An array of a struct can be lent only as an array of its own size, hence
 // a function for each size.
 ghost use mathlib.Core.Path.{_≡_};
-ghost use Prim.Native.Nat.{_+_, _*_, _≤_};
+ghost use Prim.Native.Nat.{_+_, _*_, _<_, _≤_};
 ghost use lib.ListN.{length};
 ghost use Rattle.table.specs.Entries.{filled};
 ghost use Rattle.table.specs.Check.{byteEntry, wordEntry};
@@ -19,9 +19,9 @@ fn fill_bytes(s: &[u8], at: usize, n: usize, array: &mut [u8])
     }
 }
 
-// n entries of four bytes.
+// n entries of four bytes. Where there are none, no field need be there.
 fn fill_words(s: &[u8], at: usize, n: usize, array: &mut [u32])
-    requires { ⌜ (at + 3 + 4 * n ≤ length (now s)) × (n ≤ length (now array)) ⌝ }
+    requires { ⌜ (0 < n → at + 3 + 4 * n ≤ length (now s)) × (n ≤ length (now array)) ⌝ }
     ensures { λ _. ⌜ now (array .exit) ≡ filled (wordEntry (now (s .entry)) at) n (now (array .entry)) ⌝ }
 {
     let mut k = 0;
@@ -46,7 +46,21 @@ pub fn fill_next(s: &[u8], at: usize, n: usize, array: &mut [u8; 1024])
 }
 
 pub fn fill_state(s: &[u8], at: usize, n: usize, array: &mut [u32; 32])
-    requires { ⌜ (at + 3 + 4 * n ≤ length (now s)) × (n ≤ 32) ⌝ }
+    requires { ⌜ (0 < n → at + 3 + 4 * n ≤ length (now s)) × (n ≤ 32) ⌝ }
+    ensures { λ _. ⌜ now (array .exit) ≡ filled (wordEntry (now (s .entry)) at) n (now (array .entry)) ⌝ }
+{
+    fill_words(s, at, n, array);
+}
+
+pub fn fill_timing(s: &[u8], at: usize, n: usize, array: &mut [u32; 8])
+    requires { ⌜ (0 < n → at + 3 + 4 * n ≤ length (now s)) × (n ≤ 8) ⌝ }
+    ensures { λ _. ⌜ now (array .exit) ≡ filled (wordEntry (now (s .entry)) at) n (now (array .entry)) ⌝ }
+{
+    fill_words(s, at, n, array);
+}
+
+pub fn fill_sets(s: &[u8], at: usize, n: usize, array: &mut [u32; 128])
+    requires { ⌜ (0 < n → at + 3 + 4 * n ≤ length (now s)) × (n ≤ 128) ⌝ }
     ensures { λ _. ⌜ now (array .exit) ≡ filled (wordEntry (now (s .entry)) at) n (now (array .entry)) ⌝ }
 {
     fill_words(s, at, n, array);

@@ -3,8 +3,9 @@ ghost use mathlib.Core.Path.{_≡_};
 ghost use Prim.Native.Nat.{_+_, _*_, _≤_};
 ghost use lib.ListN.{length};
 ghost use Rattle.wire.specs.Field.{number32At};
-ghost use Rattle.table.specs.Check.{fieldAnswer, bytesAnswer, wordsAnswer, setAnswer, setsAnswer};
+ghost use Rattle.table.specs.Check.{fieldAnswer, badWord, bytesAnswer, wordsAnswer, setAnswer, setsAnswer, timerAnswer, timersRow};
 use super::Answer;
+use super::LONGEST_HOLD;
 use super::or_else;
 use wire::Field;
 use wire::number32;
@@ -47,9 +48,19 @@ pub fn check_bytes(s: &[u8], at: usize, tag: u8, n: usize, limit: u8) -> Answer
     Answer::Passes
 }
 
-// Holds: a field of n entries of four bytes, each below the limit.
+fn bad_word(tag: u8, place: usize) -> Answer
+    ensures { λ r. ⌜ r ≡ badWord tag place ⌝ }
+{
+    if tag == 0x05 {
+        Answer::HoldTooLong(place)
+    } else {
+        Answer::UnknownMember(place)
+    }
+}
+
+// A field of n entries of four bytes, each below the limit.
 pub fn check_words(s: &[u8], at: usize, tag: u8, n: usize, limit: u64) -> Answer
-    requires { ⌜ (at ≤ length (now s)) × (n ≤ 32) ⌝ }
+    requires { ⌜ (at ≤ length (now s)) × (n ≤ 128) ⌝ }
     ensures { λ r. ⌜ r ≡ wordsAnswer (now (s .entry)) at tag n limit ⌝ }
 {
     let stands = expect_field(s, at, tag, 4 * n);
@@ -60,7 +71,7 @@ pub fn check_words(s: &[u8], at: usize, tag: u8, n: usize, limit: u64) -> Answer
     while k < n {
         let place = at + 3 + 4 * k;
         if limit <= number32(s, place) as u64 {
-            return Answer::HoldTooLong(place);
+            return bad_word(tag, place);
         }
         k += 1;
     }
@@ -96,6 +107,46 @@ pub fn check_sets(s: &[u8], holds: usize, at: usize, n: usize, limit: u64, old: 
         let set = check_set(s, holds + 3 + 4 * k, at + 3 + 4 * k, limit, old);
         let Answer::Passes = set else {
             return set;
+        };
+        k += 1;
+    }
+    Answer::Passes
+}
+
+// The timer at `place`: its length, then its region.
+fn check_timer(s: &[u8], place: usize, limit: u64) -> Answer
+    requires { ⌜ place + 8 ≤ length (now s) ⌝ }
+    ensures { λ r. ⌜ r ≡ timerAnswer (number32At (now (s .entry)) place) (number32At (now (s .entry)) (place + 4)) limit place ⌝ }
+{
+    let length = number32(s, place);
+    let stands = or_else(
+        (1 <= length) & (length <= LONGEST_HOLD),
+        Answer::TimerOutOfRange(place),
+    );
+    let Answer::Passes = stands else {
+        return stands;
+    };
+    let region = place + 4;
+    or_else(
+        (number32(s, region) as u64) < limit,
+        Answer::UnknownMember(region),
+    )
+}
+
+// Timers: a field of n entries of eight bytes.
+pub fn check_timers(s: &[u8], at: usize, n: usize, limit: u64) -> Answer
+    requires { ⌜ (at ≤ length (now s)) × (n ≤ 4) ⌝ }
+    ensures { λ r. ⌜ r ≡ timersRow (now (s .entry)) at n limit ⌝ }
+{
+    let stands = expect_field(s, at, 0x07, 8 * n);
+    let Answer::Passes = stands else {
+        return stands;
+    };
+    let mut k = 0;
+    while k < n {
+        let timer = check_timer(s, at + 3 + 8 * k, limit);
+        let Answer::Passes = timer else {
+            return timer;
         };
         k += 1;
     }

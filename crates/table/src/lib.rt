@@ -3,11 +3,18 @@
 ghost use mathlib.Core.Path.{_≡_};
 ghost use Prim.Native.Nat.{_+_, _*_, _<_, _≤_};
 ghost use lib.ListN.{length, getD};
+ghost use Rattle.wire.specs.Choice.{_=?_, if_then_else_};
+ghost use Rattle.wire.specs.Field.{fieldAt};
 ghost use Rattle.wire.specs.Reply.{numberIn, placeIn};
+ghost use Rattle.table.specs.declared.Counts as declared;
+ghost use Rattle.table.specs.declared.Table as declared-table;
 ghost use Rattle.table.specs.Answer.{replyOf, _or-else_};
 ghost use Rattle.table.specs.Check.{countsIn, countsInRange, PlacesOf};
-ghost use Rattle.table.specs.Check.{countsAnswer, boundAnswer, holdsAnswer, entriesAnswer, answerBy, tableAnswer, tableIn};
+ghost use Rattle.table.specs.Check.{countsAnswer, boundAnswer, holdsAnswer, timerSetsAnswer, timersAnswer, tagged, timingAnswer};
+ghost use Rattle.table.specs.Check.{holdField, entriesAnswer, answerBy, tableAnswer, timersIn, tableIn};
 use sets::set_limit;
+use wire::Field;
+use wire::number16;
 use wire::number32;
 use wire::wide;
 
@@ -16,9 +23,12 @@ mod fields;
 
 use arrays::fill_next;
 use arrays::fill_output;
+use arrays::fill_sets;
 use arrays::fill_state;
+use arrays::fill_timing;
 use fields::check_bytes;
 use fields::check_sets;
+use fields::check_timers;
 use fields::check_words;
 use fields::expect_field;
 
@@ -26,6 +36,8 @@ use fields::expect_field;
 pub const LARGEST_BOUND: u32 = 60000;
 
 pub const LONGEST_HOLD: u32 = 3600000;
+
+pub const MOST_TIMERS: usize = 4;
 
 // A hold that is allowed is below this.
 const HOLD_LIMIT: u64 = LONGEST_HOLD as u64 + 1;
@@ -41,6 +53,12 @@ pub struct Table {
     pub next: [u8; 1024],
     pub hold: [u32; 32],
     pub delayed: [u32; 32],
+    // 0 in a table with holds; in one with timers all holds and delayed sets are 0.
+    pub timers: u32,
+    // Of timer k the length at 2 * k, and then the region.
+    pub timing: [u32; 8],
+    // Rows by state: the inputs that timer k delays in state q stand at q * timers + k.
+    pub sets: [u32; 128],
 }
 
 // Each refusal holds its place.
@@ -54,6 +72,8 @@ pub enum Answer {
     HoldTooLong(usize),
     UnknownInputDelayed(usize),
     IdleSet(usize),
+    UnknownMember(usize),
+    TimerOutOfRange(usize),
     BytesAfter(usize),
 }
 
@@ -89,6 +109,8 @@ impl Answer {
             Answer::HoldTooLong(_) => 6,
             Answer::UnknownInputDelayed(_) => 7,
             Answer::IdleSet(_) => 11,
+            Answer::UnknownMember(_) => 12,
+            Answer::TimerOutOfRange(_) => 13,
             Answer::BytesAfter(_) => 8,
         }
     }
@@ -106,6 +128,8 @@ impl Answer {
             Answer::HoldTooLong(at) => at,
             Answer::UnknownInputDelayed(at) => at,
             Answer::IdleSet(at) => at,
+            Answer::UnknownMember(at) => at,
+            Answer::TimerOutOfRange(at) => at,
             Answer::BytesAfter(at) => at,
         }
     }
@@ -217,7 +241,61 @@ fn check_holds(s: &[u8], c: Counts, p: Places, old: bool) -> Answer
     or_else(s.len() <= p.end, Answer::BytesAfter(p.end))
 }
 
-// Fields 03 to 06, and the bytes after them, under the counts of field 01.
+// Fields 07 and 08, and the bytes after them, with n timers. Field 07 starts at `at`.
+fn check_timed(s: &[u8], c: Counts, at: usize, n: usize) -> Answer
+    requires { ⌜ (at ≡ holdField c) × (at ≤ length (now s)) × (c .states ≤ 32) × (c .inputs ≤ 32) ⌝ }
+    ensures { λ r. ⌜ r ≡ timersAnswer c n (now (s .entry)) ⌝ }
+{
+    let number = or_else((1 <= n) & (n <= MOST_TIMERS), Answer::WrongTagOrLength(at));
+    let Answer::Passes = number else {
+        return number;
+    };
+    let timers = check_timers(s, at, n, set_limit(c.states as u32));
+    let Answer::Passes = timers else {
+        return timers;
+    };
+    check_timer_sets(s, c, at + 3 + 8 * n, n)
+}
+
+// Field 08, which starts at `at`, and the bytes after it.
+fn check_timer_sets(s: &[u8], c: Counts, at: usize, n: usize) -> Answer
+    requires { ⌜ (at ≤ length (now s)) × (c .states ≤ 32) × (c .inputs ≤ 32) × (n ≤ 4) ⌝ }
+    ensures { λ r. ⌜ r ≡ timerSetsAnswer c at n (now (s .entry)) ⌝ }
+{
+    let rows = (c.states as usize) * n;
+    let sets = check_words(s, at, 0x08, rows, set_limit(c.inputs as u32));
+    let Answer::Passes = sets else {
+        return sets;
+    };
+    let end = at + 3 + 4 * rows;
+    or_else(s.len() <= end, Answer::BytesAfter(end))
+}
+
+// Whether field 07 stands at `at`, whole.
+fn timed(s: &[u8], at: usize) -> bool
+    requires { ⌜ at ≤ length (now s) ⌝ }
+    ensures { λ r. ⌜ r ≡ tagged (fieldAt (now (s .entry)) at) ⌝ }
+{
+    let field = wire::read_field(s, at);
+    let Field::Whole { tag, .. } = field else {
+        return false;
+    };
+    tag == 0x07
+}
+
+// Holds, or timers where the fifth field says so.
+fn check_timing(s: &[u8], c: Counts, p: Places, old: bool) -> Answer
+    requires { ⌜ PlacesOf c p × (p .hold ≤ length (now s)) × (c .states ≤ 32) × (c .inputs ≤ 32) ⌝ }
+    ensures { λ r. ⌜ r ≡ timingAnswer old c (now (s .entry)) ⌝ }
+{
+    if !old & timed(s, p.hold) {
+        let claimed = number16(s, p.hold + 1) / 8;
+        return check_timed(s, c, p.hold, claimed as usize);
+    }
+    check_holds(s, c, p, old)
+}
+
+// Fields 03 and on, and the bytes after them, under the counts of field 01.
 fn check_entries(s: &[u8], c: Counts, old: bool) -> Answer
     requires { ⌜ (14 ≤ length (now s)) × (c .states ≤ 32) × (c .inputs ≤ 32) ⌝ }
     ensures { λ r. ⌜ r ≡ entriesAnswer old c (now (s .entry)) ⌝ }
@@ -231,7 +309,7 @@ fn check_entries(s: &[u8], c: Counts, old: bool) -> Answer
     let Answer::Passes = next else {
         return next;
     };
-    check_holds(s, c, p, old)
+    check_timing(s, c, p, old)
 }
 
 // It only looks, and makes no table.
@@ -256,6 +334,32 @@ pub fn check_by(s: &[u8], old: bool) -> Answer
     check_entries(s, counts_in(s), old)
 }
 
+// How many timers the table has whose fifth field starts at `at`: 0 where it has holds.
+fn timers_in(s: &[u8], at: usize) -> usize
+    requires { ⌜ at ≤ length (now s) ⌝ }
+    ensures { λ r. ⌜ ((c : declared.Counts) → at ≡ holdField c → r ≡ timersIn c (now (s .entry))) ⌝ }
+{
+    if timed(s, at) {
+        return (number16(s, at + 1) / 8) as usize;
+    }
+    0
+}
+
+// With timers no state has a hold of its own.
+fn holders_of(timers: usize, states: usize) -> usize
+    ensures { λ r. ⌜ r ≡ (if timers =? 0 then states else 0) ⌝ }
+{
+    if timers == 0 { states } else { 0 }
+}
+
+// How many inputs the table has, for who asks nothing else of it.
+pub fn inputs_in(s: &[u8]) -> u32
+    requires { ⌜ tableAnswer (now s) ≡ Answer.Passes ⌝ }
+    ensures { λ r. ⌜ ((t : declared-table.Table) → tableIn (now (s .entry)) ≡ t → r ≡ t .inputs) ⌝ }
+{
+    wide(counts_in(s).inputs)
+}
+
 // The table in bytes that passed, its arrays filled in place.
 pub fn read(s: &[u8]) -> Table
     requires { ⌜ tableAnswer (now s) ≡ Answer.Passes ⌝ }
@@ -264,6 +368,8 @@ pub fn read(s: &[u8]) -> Table
     let c = counts_in(s);
     let states = c.states as usize;
     let p = places_of(c);
+    let timers = timers_in(s, p.hold);
+    let holders = holders_of(timers, states);
     let mut t = Table {
         states: c.states as u32,
         inputs: c.inputs as u32,
@@ -274,11 +380,16 @@ pub fn read(s: &[u8]) -> Table
         next: [0u8; 1024],
         hold: [0u32; 32],
         delayed: [0u32; 32],
+        timers: timers as u32,
+        timing: [0u32; 8],
+        sets: [0u32; 128],
     };
     fill_output(s, 14, states, &mut t.output);
     fill_next(s, p.next, p.pairs, &mut t.next);
-    fill_state(s, p.hold, states, &mut t.hold);
-    fill_state(s, p.delayed, states, &mut t.delayed);
+    fill_state(s, p.hold, holders, &mut t.hold);
+    fill_state(s, p.delayed, holders, &mut t.delayed);
+    fill_timing(s, p.hold, 2 * timers, &mut t.timing);
+    fill_sets(s, p.hold + 3 + 8 * timers, states * timers, &mut t.sets);
     t
 }
 

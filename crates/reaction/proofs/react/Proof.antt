@@ -1,8 +1,7 @@
--- The table's refusal is passed up; a table that passes is well formed.
+-- The table's refusal is passed up.
 use mathlib.Core.Path.{sym, _∙_}
 use Rattle.table.proofs.Answers.{let-pass}
 use Rattle.table.proofs.Under.{under-passes, under-refuses}
-use Rattle.table.proofs.WellFormed.{well-formed}
 use Rattle.reaction.specs.Reaction.{reactOf}
 use borrow.Author.Needs.{needs}
 use Rattle.reaction.proofs.react.Statement.{statement}
@@ -12,20 +11,12 @@ returns : tie.Need-returns
 unfolding reactOf
 returns c = sym (under-refuses _ _ _ _ (c .before .check .ensures) (c .match .keys2))
 
-read-requires : tie.Need-read-requires
-read-requires c κs = let-pass (c .before .before .check .ensures) (c .before .match .keys1)
-
 react-checked-requires : tie.Need-react-checked-requires
-react-checked-requires c κs = rw (c .read .ensures) (well-formed _ (let-pass (c .before .before .before .check .ensures) (c .before .before .match .keys1)))
+react-checked-requires c κs = let-pass (c .before .before .check .ensures) (c .before .match .keys1)
 
 returns-2 : tie.Need-returns-2
 unfolding reactOf
-returns-2 c =
-    let told = c .before .before in
-    (rw (c .before .read .ensures) at (c .react-checked .ensures))
-    ∙ sym (under-passes _ _ _ (let-pass (told .before .before .check .ensures) (told .before .match .keys1)))
+returns-2 c = c .react-checked .ensures ∙ sym (under-passes _ _ _ (let-pass (c .before .before .before .check .ensures) (c .before .before .match .keys1)))
 
 pub react-spec : {M : Type 1} → statement M
-react-spec =
-    tie.close
-    (tie.spec (λ c κs. search needs) (λ c. search needs) returns read-requires react-checked-requires returns-2)
+react-spec = tie.close (tie.spec (λ c κs. search needs) (λ c. search needs) returns react-checked-requires returns-2)

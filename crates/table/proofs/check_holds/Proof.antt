@@ -1,8 +1,8 @@
 -- Each way out is a step along `holdsAnswer`; a field that stands lets the next be looked for.
 use native.Mathlib.Omega.{arith}
 use Rattle.table.specs.Check.{holdsAnswer}
-use Rattle.table.proofs.Answers.{let-pass, stops, past}
-use Rattle.table.proofs.Rows.{row-stands}
+use Rattle.table.proofs.Answers.{stops}
+use Rattle.table.proofs.Rows.{row-fits, no-sets, table-ends}
 use borrow.Author.Needs.{needs}
 use Rattle.table.proofs.check_holds.Statement.{statement}
 use Rattle.table.proofs.check_holds.Tie as tie
@@ -16,29 +16,22 @@ returns c =
 check-sets-requires : tie.Need-check-sets-requires
 check-sets-requires c κs =
     let told = c .before .before in
-    omega (arith, row-stands _ _ _ _ _ _ (let-pass (told .before .before .check-words .ensures) (told .before .match .keys1)) .fits)
+    omega (arith, row-fits _ _ _ _ _ _ (told .before .before .check-words .ensures) (told .before .match .keys1))
 
 returns-2 : tie.Need-returns-2
-unfolding holdsAnswer
 returns-2 c =
     let limit = c .before .before in
     let told = limit .before .before in
-    let places = told .before .before .before .before .before .pre .0 in
-    let holds = rw (places .hold) at (told .before .before .check-words .ensures) in
-    let delayed = rw (places .hold, places .delayed, limit .set-limit .ensures) at (c .before .check-sets .ensures) in
-    past holds (told .before .match .keys1) (stops _ delayed (c .match2 .keys2))
+    no-sets _ _ _ _ (told .before .before .before .before .before .pre .0) _ _ (told .before .match .keys1) _ (limit .set-limit .ensures)
+    (told .before .before .check-words .ensures) (c .before .check-sets .ensures) (c .match2 .keys2)
 
 returns-3 : tie.Need-returns-3
-unfolding holdsAnswer
 returns-3 c =
     let found = c .before .before .before in
     let limit = found .before .before in
     let told = limit .before .before in
-    let places = told .before .before .before .before .before .pre .0 in
-    let holds = rw (places .hold) at (told .before .before .check-words .ensures) in
-    let delayed = rw (places .hold, places .delayed, limit .set-limit .ensures) at (found .before .check-sets .ensures) in
-    let end = rw (places .end) at (c .or-else .ensures) in
-    past holds (told .before .match .keys1) (past delayed (found .match2 .keys1) end)
+    table-ends _ _ _ _ (told .before .before .before .before .before .pre .0) _ _ (told .before .match .keys1) _ (limit .set-limit .ensures)
+    (told .before .before .check-words .ensures) (found .before .check-sets .ensures) (found .match2 .keys1) _ (c .or-else .ensures)
 
 pub check-holds-spec : {M : Type 1} → statement M
 check-holds-spec =

@@ -1,8 +1,7 @@
 -- The loop keeps `Checking`; each way out is one of its laws.
 use Prim.Native.Nat.{_-_, _*_}
 use Rattle.table.specs.Check.{setEntry}
-use Rattle.table.proofs.Answers.{refuses, let-pass}
-use Rattle.table.proofs.Rows.{Checking, no-field, none-checked, all-checked, bad-entry, good-entry}
+use Rattle.table.proofs.Rows.{Checking, no-field, none-checked, all-checked, refused-entry, passed-entry}
 use borrow.Author.Needs.{needs}
 use Rattle.table.proofs.fields.check_sets.Statement.{statement}
 use Rattle.table.proofs.fields.check_sets.Tie as tie
@@ -20,14 +19,12 @@ loop-holds : tie.Need-loop-holds Inv-loop μ-loop
 loop-holds c = none-checked _ _ _ _ _ _ _ (c .before .before .expect-field .ensures) (c .before .match .keys1)
 
 returns-2 : tie.Need-returns-2 Inv-loop μ-loop
-returns-2 c =
-    let set = c .before .check-set in
-    bad-entry (c .before .before .before .loop .inv) (c .before .before .loop-test .taken) _ (set .ensures) (refuses (set .result) (c .match2 .keys2))
+returns-2 c = refused-entry (c .before .before .before .loop .inv) (c .before .before .loop-test .taken) _ (c .before .check-set .ensures) (c .match2 .keys2)
 
 loop-again : tie.Need-loop-again Inv-loop μ-loop
 loop-again c =
     let set = c .before .before in
-    good-entry (set .before .before .loop .inv) (set .before .loop-test .taken) (let-pass (set .check-set .ensures) (c .before .match2 .keys1))
+    passed-entry (set .before .before .loop .inv) (set .before .loop-test .taken) _ (set .check-set .ensures) (c .before .match2 .keys1)
 
 returns-3 : tie.Need-returns-3 Inv-loop μ-loop
 returns-3 c = all-checked (c .before .loop .inv) (search needs)

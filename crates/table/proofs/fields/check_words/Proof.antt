@@ -1,15 +1,14 @@
 -- The loop keeps `Checking`; each way out is one of its laws.
-use mathlib.Core.Path.{refl}
+use mathlib.Core.Path.{_∙_}
 use Prim.Native.Nat.{_+_, _-_, _*_}
-use Rattle.table.specs.declared.Answer.the-variants.{HoldTooLong}
-use Rattle.table.specs.Check.{below, wordEntry}
-use Rattle.table.proofs.Rows.{Checking, no-field, none-checked, all-checked, bad-entry, good-entry, is-called, is-below}
+use Rattle.table.specs.Check.{below, wordEntry, badWord}
+use Rattle.table.proofs.Rows.{Checking, no-field, none-checked, all-checked, bad-entry, good-entry, is-called, is-below, bad-word-refuses}
 use borrow.Author.Needs.{needs}
 use Rattle.table.proofs.fields.check_words.Statement.{statement}
 use Rattle.table.proofs.fields.check_words.Tie as tie
 
 abbrev Inv-loop : tie.InvT-loop
-Inv-loop s at tag n limit k₀ k = Checking s at tag (4 * n) (below limit (wordEntry s at) (λ j. HoldTooLong (at + 3 + 4 * j))) n k
+Inv-loop s at tag n limit k₀ k = Checking s at tag (4 * n) (below limit (wordEntry s at) (λ j. badWord tag (at + 3 + 4 * j))) n k
 
 abbrev μ-loop : tie.MeasureT-loop
 μ-loop s at tag n limit k₀ k = n - k
@@ -21,7 +20,9 @@ loop-holds : tie.Need-loop-holds Inv-loop μ-loop
 loop-holds c = none-checked _ _ _ _ _ _ _ (c .before .before .expect-field .ensures) (c .before .match .keys1)
 
 returns-2 : tie.Need-returns-2 Inv-loop μ-loop
-returns-2 c = bad-entry (c .before .before .before .loop .inv) (search needs) _ (is-called _ _ _ _ (search needs)) refl
+returns-2 c =
+    let is = c .bad-word .ensures in
+    bad-entry (c .before .before .before .before .loop .inv) (search needs) _ (is ∙ is-called _ _ _ _ (search needs)) (rw is (bad-word-refuses _ _))
 
 loop-again : tie.Need-loop-again Inv-loop μ-loop
 loop-again c = good-entry (c .before .before .before .loop .inv) (search needs) (is-below _ _ _ _ (search needs))
@@ -34,4 +35,4 @@ check-words-spec =
     tie.close
     (tie.spec Inv-loop μ-loop (λ c. search needs) (λ c κs. search needs) (λ c. search needs) returns loop-holds
     (λ c. search needs) (λ c. search needs) (λ c. search needs) (λ c κs. search needs) (λ c. search needs)
-    returns-2 (λ c. search needs) (λ c. search needs) loop-again returns-3)
+    (λ c κs. search needs) returns-2 (λ c. search needs) (λ c. search needs) loop-again returns-3)
