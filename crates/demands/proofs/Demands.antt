@@ -26,7 +26,7 @@ use Rattle.machine.specs.Walk.{inTable}
 use Rattle.machine.specs.declared.Machine.{Machine}
 use Rattle.machine.specs.Most.{MostOf}
 use Rattle.machine.specs.Longest.{LongestOf}
-use Rattle.machine.proofs.Left.{left-is-most}
+use Rattle.machine.proofs.Left.{left-until-free, left-is-most}
 use Rattle.machine.proofs.Longest.{longest-is-cycle}
 use Rattle.journal.specs.declared.Numbers.{Numbers}
 use Rattle.journal.specs.declared.Answer.the-variants.{Accepted}
@@ -130,6 +130,7 @@ module _ (table journal : List ℕ) (table-bytes : Bytes table) (bytes : Bytes j
     records = all;
     holds = held;
     most = most-of (found .0) _ all (n .left) (found .3 .left-is ∙ sym (left-end (found .0) _ (found .3 .records) (n .end)));
+    until-free = left-until-free (found .0) (found .0 .initial) (found .3 .input) all (found .3 .last) (found .3 .runs);
   }
 
   longest-told : LongestTold table journal n

@@ -14,8 +14,10 @@ use Rattle.records.specs.declared.Record.{Record}
 use Rattle.records.specs.declared.Record.the-variants.{End}
 use Rattle.records.specs.Form.{longestJournal}
 use Rattle.records.specs.Record.{isTest}
+use Rattle.machine.specs.declared.Machine.{Machine}
 use Rattle.machine.specs.Machine.{start, left, after}
-use Rattle.machine.specs.Most.{MostOf}
+use Rattle.machine.specs.Left.{UntilFree}
+use Rattle.machine.specs.Most.{Has, MostOf}
 use Rattle.machine.specs.Longest.{LongestOf}
 use Rattle.journal.specs.declared.Numbers.{Numbers}
 use Rattle.journal.specs.declared.Answer.the-variants.{Accepted}
@@ -56,13 +58,15 @@ pub record HoldsRun (table journal : List ℕ) (T : ℕ) : Type 0 where
 abbrev pub AcceptedIsRun : Type 0
 AcceptedIsRun = (table journal : List ℕ) → Bytes table → Bytes journal → (T : ℕ) → Accepts table journal T ↔ HoldsRun table journal T
 
--- The most ticks left: no test of the journal's records has more, some test has it if there is one, and else it is 0.
+-- The most ticks left: no test of the journal's records has more, some test has it if there is one, and else it is 0. So many ticks after
+-- a test as it has left the same machine's test would be free, and not before.
 pub record LeftTold (table journal : List ℕ) (n : Numbers) : Type 0 where
   pub t : Table
   pub input : ℕ
   pub records : List Record
   pub holds : Holds table journal t input records (n .end)
   pub most : MostOf (after t) isTest (left t) (start (t .initial) input) records (n .left)
+  pub until-free : (before : Machine) (time : ℕ) → Has (after t) isTest (left t) (start (t .initial) input) records before time → UntilFree t before time
 
 abbrev pub LeftIsMost : Type 0
 LeftIsMost = (table journal : List ℕ) → Bytes table → Bytes journal → (n : Numbers) → checkOf table journal ≡ Accepted n → LeftTold table journal n

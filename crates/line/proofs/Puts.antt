@@ -43,12 +43,23 @@ puts-counts {after = after} {end = end} p =
     let long : end ≡ length (take end after) = rw (p .written) (omega arith) in
     (omega (arith, length-take end after), long)
 
--- A line that is begun with some of its numbers goes on with the others.
+-- A line begins with its first number, and goes on with the others.
+pub line-more : (name : String) (names : List String) (n : ℕ) (numbers : List ℕ) →
+    lineWith (name ∷ names) (n ∷ numbers) ≡ text name ++ decimal n ++ lineWith names numbers
+unfolding named lineWith
+line-more name names n numbers = simp append-assoc refl
+
+named-after : (names : List String) (numbers : List ℕ) → length names ≡ length numbers → (more : List String) (rest : List ℕ) →
+    named names numbers ++ named more rest ≡ named (names ++ more) (numbers ++ rest)
+unfolding named
+named-after [] [] h more rest = refl
+named-after [] (n ∷ numbers) h more rest = absurd (omega arith)
+named-after (name ∷ names) [] h more rest = absurd (omega arith)
+named-after (name ∷ names) (n ∷ numbers) h more rest =
+    simp append-assoc (ap (λ l. text name ++ (decimal n ++ l)) (named-after names numbers (omega arith) more rest))
+
 pub line-after : (names : List String) (numbers : List ℕ) → length names ≡ length numbers → (more : List String) (rest : List ℕ) →
     named names numbers ++ lineWith more rest ≡ lineWith (names ++ more) (numbers ++ rest)
-unfolding named lineWith
-line-after [] [] h more rest = refl
-line-after [] (n ∷ numbers) h more rest = absurd (omega arith)
-line-after (name ∷ names) [] h more rest = absurd (omega arith)
-line-after (name ∷ names) (n ∷ numbers) h more rest =
-    simp append-assoc (ap (λ l. text name ++ (decimal n ++ l)) (line-after names numbers (omega arith) more rest))
+unfolding lineWith
+line-after names numbers h more rest =
+    sym (append-assoc (named names numbers) _ _) ∙ ap (λ l. l ++ text "\n") (named-after names numbers h more rest)

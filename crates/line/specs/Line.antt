@@ -30,16 +30,15 @@ decimal n = digitsOf 20 n
 
 -- ---- Lines
 
--- Each number after its name; and with the line's end.
+-- Each number after its name.
 unfoldable pub named : List String → List ℕ → List ℕ
 named [] numbers = []
 named (name ∷ names) [] = []
 named (name ∷ names) (n ∷ numbers) = text name ++ decimal n ++ named names numbers
 
+-- And the line's end.
 unfoldable pub lineWith : List String → List ℕ → List ℕ
-lineWith [] numbers = text "\n"
-lineWith (name ∷ names) [] = text "\n"
-lineWith (name ∷ names) (n ∷ numbers) = text name ++ decimal n ++ lineWith names numbers
+lineWith names numbers = named names numbers ++ text "\n"
 
 -- The names of what an accepted journal gives, in the reply's order: how long the run was, where it ended, and then the most ticks left at
 -- a test and the longest cycle.
@@ -53,7 +52,6 @@ abbrev pub acceptedNames : List String
 acceptedNames = lengthNames ++ (lastNames ++ (" left=" ∷ " longest=" ∷ []))
 
 -- And of a refusal's number and place.
-
 abbrev pub refusedNames : List String
 refusedNames = "refused " ∷ " at " ∷ []
 

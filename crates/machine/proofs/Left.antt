@@ -12,9 +12,10 @@ use Rattle.machine.specs.declared.Machine.{Machine}
 use Rattle.machine.specs.declared.Rule.{Rule}
 use Rattle.machine.specs.declared.Rule.the-variants.{Running, Passed, NoHold}
 use Rattle.machine.specs.Verdict.{verdictBy, leftBy, Watch, ruleOf, leftOf, stronger, strongest, largest}
-use Rattle.machine.specs.Machine.{entryInto, watches, rule, verdict, left, after}
+use Rattle.machine.specs.Machine.{start, watches, rule, verdict, left, after}
 use Rattle.records.specs.Record.{isTest}
-use Rattle.machine.specs.Left.{HeldIsLeft, LeftUntilFree, LeftIsMost}
+use Rattle.machine.specs.Left.{HeldIsLeft, UntilFree, LeftUntilFree, LeftIsMost}
+use Rattle.machine.proofs.Before.{EnteredBy, first-entered, entered-by}
 use Rattle.machine.proofs.Most.{is-most}
 use Rattle.machine.proofs.Rules.{left-is}
 use Rattle.machine.proofs.Steps.{verdict-small}
@@ -69,17 +70,20 @@ unfolding largest
 largest-falls polled time d [] h = omega arith
 largest-falls polled time d (w ∷ ws) (h, each) = omega (arith, watch-falls polled time d w h, largest-falls polled time d ws each)
 
-module _ (t : Table) (m : Machine) (time : ℕ) (entry : m .entry ≤ time) (regions : (k : ℕ) → entryInto (m .regions) k ≤ time) where
-  pub left-falls : (d : ℕ) → left t m (time + d) ≡ left t m time - d
+module _ (t : Table) (m : Machine) (time : ℕ) (by : EnteredBy m time) where
+  left-falls : (d : ℕ) → left t m (time + d) ≡ left t m time - d
   unfolding left
-  left-falls d = largest-falls (m .polled) time d (watches t m) (entry, each-timer t m (λ w. w .since ≤ time) (λ k l. regions k))
+  left-falls d = largest-falls (m .polled) time d (watches t m) (by .state, each-timer t m (λ w. w .since ≤ time) (by .regions))
+
+  until-free : UntilFree t m time
+  until-free = (
+    sym (none-left t m (time + left t m time) 0 (let e = left-falls (left t m time) in omega arith) refl),
+    λ d l. held-is-left t m (time + d) .1 (let e = left-falls d in omega arith),
+  )
 
 pub left-until-free : LeftUntilFree
-left-until-free t m time entry regions =
-    let falls = left-falls t m time entry regions in (
-      sym (none-left t m (time + left t m time) 0 (let e = falls (left t m time) in omega arith) refl),
-      λ d l. held-is-left t m (time + d) .1 (let e = falls d in omega arith),
-    )
+left-until-free t initial input rs last run before time at =
+    until-free t before time (entered-by t isTest (left t) (start initial input) rs last (first-entered initial input) run before time at)
 
 pub left-is-most : LeftIsMost
 left-is-most t m rs = is-most (after t) isTest (left t) m rs

@@ -12,10 +12,11 @@ use Rattle.records.specs.declared.Record.the-variants.{Change, Poll, Test, Tick
 use Rattle.records.specs.Record.{timeOf}
 use Rattle.machine.specs.Machine.{start, entryInto, verdict, after}
 use Rattle.machine.specs.Run.{Runs}
+use Rattle.machine.proofs.Before.{time-after, entry-before, region-before}
 use Rattle.machine.proofs.Steps.{Taken, taken-step, verdict-small}
 use Rattle.runs.specs.Accepted.{Accepted}
 use Rattle.runs.specs.Automaton.{Clocks, Configuration, at, later, Edge, Run, MachineIsAutomaton}
-use Rattle.runs.proofs.Records.{first-entry, time-after, first-taken, entry-before, region-before, change-before}
+use Rattle.runs.proofs.Records.{first-entry, first-taken, change-before}
 use Rattle.runs.proofs.Clocks.{Reading, reading}
 use Rattle.runs.proofs.Edges.{seen, edge, fits}
 

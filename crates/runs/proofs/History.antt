@@ -17,10 +17,11 @@ use Rattle.machine.specs.declared.Rule.{Rule}
 use Rattle.machine.specs.declared.Rule.the-variants.{Running, Passed, NoHold}
 use Rattle.machine.specs.Verdict.{verdictBy}
 use Rattle.machine.specs.Machine.{start, rule, verdict, after}
+use Rattle.machine.proofs.Before.{entry-before}
 use Rattle.machine.proofs.Steps.{Taken}
 use Rattle.runs.specs.Reaction.{NoRegions}
 use Rattle.runs.proofs.Rules.{by-hold}
-use Rattle.runs.proofs.Records.{repeats-or-changes, split, phases, entry-before}
+use Rattle.runs.proofs.Records.{repeats-or-changes, split, phases}
 
 -- The polled input was that of a slot of this cycle.
 pub record PolledIn (slots : ℕ → Machine) (polled start now : ℕ) : Type 0 where

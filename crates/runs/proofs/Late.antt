@@ -12,10 +12,11 @@ use Rattle.records.specs.declared.Record.{Record}
 use Rattle.records.specs.declared.Record.the-variants.{Change, Poll, Test, Tick, End}
 use Rattle.records.specs.Record.{timeOf}
 use Rattle.machine.specs.Machine.{stateAfter, after}
+use Rattle.machine.proofs.Before.{entry-before}
 use Rattle.machine.proofs.Steps.{Taken}
 use Rattle.runs.specs.Slots.{NotTooLate}
 use Rattle.runs.specs.Reaction.{Reach, there, via, Suffices}
-use Rattle.runs.proofs.Records.{split, phases, state-kept, entry-kept, entry-before, state-next}
+use Rattle.runs.proofs.Records.{split, phases, state-kept, entry-kept, state-next}
 use Rattle.runs.proofs.History.{History}
 use Rattle.runs.proofs.Slots.{from-start, InSlot, in-slot}
 

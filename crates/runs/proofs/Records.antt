@@ -9,16 +9,14 @@ use borrow.Author.Tests.{leb-true, leb-false, eq-eqb, ne-eqb, eqb-true, eqb-fals
 use Rattle.wire.specs.Choice.{_≤?_, _=?_, _and_, if_then_else_}
 use Rattle.wire.proofs.Choice.{never}
 use Rattle.table.specs.declared.Table.{Table}
-use Rattle.table.specs.Table.{nextOf, inRegion}
+use Rattle.table.specs.Table.{nextOf}
 use Rattle.machine.specs.declared.Machine.{Machine}
 use Rattle.records.specs.declared.Record.{Record}
-use Rattle.records.specs.declared.Record.the-variants.{Change, Poll, Test, Tick, End}
-use Rattle.records.specs.Record.{timeOf}
 use Rattle.machine.specs.Machine.{start, allowed, entryInto, stateAfter, lastChange, regionsAfter, after, entered}
 use Rattle.machine.specs.Run.{Runs}
 use Rattle.machine.proofs.Laws.{repeat-leaves, change-counts, from-phase-3, stays}
 use Rattle.machine.proofs.Steps.{Taken, step-taken}
-use Rattle.machine.proofs.Watches.{four, region-after}
+use Rattle.machine.proofs.Watches.{four}
 
 pub split : (n k : ℕ) → (n ≤ k) ⊎ (k < n)
 split n k = go (n ≤? k) refl
@@ -30,10 +28,6 @@ split n k = go (n ≤? k) refl
 pub not-both : (b : Bool) → (b and not b) ≡ false
 not-both true = refl
 not-both false = refl
-
-either-before : (b : Bool) {x y time : ℕ} → x ≤ time → y ≤ time → (if b then x else y) ≤ time
-either-before true l k = l
-either-before false l k = k
 
 -- The phases in which a poll, a test and a tick may come.
 pub record Phases (p : ℕ) : Type 0 where
@@ -66,13 +60,6 @@ change-before m time input l = ⊎-elim (λ x. rw (x .1) l) (λ x. omega (arith,
 -- ---- Any record
 
 module _ (t : Table) (m : Machine) where
-  pub time-after : (r : Record) → (after t m r) .time ≡ timeOf r
-  time-after (Change time input) = refl
-  time-after (Poll time input) = refl
-  time-after (Test time verdict) = refl
-  time-after (Tick time state) = refl
-  time-after (End time) = refl
-
   pub first-taken : (r : Record) (rs : List Record) (last : Machine) → Runs t m (r ∷ rs) last → Taken t m r
   first-taken r rs last run = step-taken t m r (after t m r) (run .0) .0
 
@@ -82,13 +69,6 @@ pub first-entry : (k : ℕ) → k < 4 → entryInto (start 0 0 .regions) k ≡ 0
 first-entry = four (λ k. entryInto (start 0 0 .regions) k ≡ 0) refl refl refl refl
 
 module _ (t : Table) (m : Machine) where
-  pub entry-before : (time : ℕ) → m .entry ≤ time → (if stateAfter t m =? m .state then m .entry else time) ≤ time
-  entry-before time l = either-before (stateAfter t m =? m .state) l (omega arith)
-
-  pub region-before : (time k : ℕ) → k < 4 → entryInto (m .regions) k ≤ time → entryInto (regionsAfter t m time) k ≤ time
-  unfolding entered
-  region-before time k small l = rw (region-after t m time k small) (either-before (inRegion t k (stateAfter t m) and not (inRegion t k (m .state))) (omega arith) l)
-
   pub state-kept : m .phase ≡ 2 → stateAfter t m ≡ m .state
   state-kept two = sym (stays t m (λ three. omega arith))
 

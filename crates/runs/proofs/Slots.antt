@@ -11,10 +11,11 @@ use Rattle.records.specs.declared.Record.{Record}
 use Rattle.records.specs.Record.{timeOf}
 use Rattle.machine.specs.Machine.{start, after}
 use Rattle.machine.specs.Run.{Runs}
+use Rattle.machine.proofs.Before.{time-after}
 use Rattle.machine.proofs.Steps.{Taken}
 use Rattle.runs.specs.Accepted.{Accepted}
 use Rattle.runs.specs.Slots.{slot}
-use Rattle.runs.proofs.Records.{split, time-after, first-taken}
+use Rattle.runs.proofs.Records.{split, first-taken}
 use Rattle.runs.proofs.History.{History, at-first, until, onward}
 
 module _ (t : Table) (k : ℕ) where

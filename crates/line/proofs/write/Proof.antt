@@ -2,7 +2,7 @@
 use mathlib.Core.Path.{sym, ap}
 use Rattle.wire.specs.Reply.{valuesIn}
 use Rattle.journal.specs.Answer.{replyOf}
-use Rattle.line.specs.Line.{lineWith}
+use Rattle.line.specs.Line.{named, lineWith}
 use borrow.Author.Needs.{needs}
 use Rattle.line.proofs.Answers.{no-values, puts-accepted, puts-refused}
 use Rattle.line.proofs.write.Statement.{statement}
@@ -14,7 +14,7 @@ returns c =
     puts-refused _ (told .before .number .ensures) (told .if1 .taken) (c .before .place .ensures) (c .put-refused .ensures)
 
 returns-2 : tie.Need-returns-2
-unfolding lineWith
+unfolding named lineWith
 returns-2 c =
     let found = c .before .before .before in
     let zero = found .before in
