@@ -1,7 +1,9 @@
 -- A table with holds turned into timers, as specs/Timers states it.
 use mathlib.Core.Path.{_≡_, refl, sym, ap, _∙_}
 use Rattle.table.specs.declared.Table.{Table}
+use Rattle.table.specs.Table.{WellFormed}
 use Rattle.table.specs.Check.{tableIn}
+use Rattle.table.proofs.WellFormed.{well-formed}
 use Rattle.table.proofs.Under.{under-passes}
 use Rattle.records.specs.Form as form
 use Rattle.machine.specs.AsTimers.{asTimers, FewHolds, SameRun, both-ran, both-too-long, both-refused}
@@ -12,10 +14,10 @@ use Rattle.runtime.specs.Run.{madeOf, madeUnder, runOf}
 use Rattle.laws.specs.Timers.{timersFor, TimersForHolds}
 use Rattle.laws.proofs.Tables.{holds-that-table}
 
-module _ (t : Table) (few : FewHolds t) where
+module _ (t : Table) (good : WellFormed t) (few : FewHolds t) where
   answers-alike : {r′ r : Run} → SameRun t r′ r → answerOf (asTimers t) r′ ≡ answerOf t r
   unfolding answerOf asTimers
-  answers-alike (both-ran {input} {taken} {last′} {last} alike) = rw (alike .same, as-timers-judge-alike t few .left-same input taken) refl
+  answers-alike (both-ran {input} {taken} {last′} {last} alike) = rw (alike .same, as-timers-judge-alike t good few .left-same input taken) refl
   answers-alike both-too-long = refl
   answers-alike both-refused = refl
 
@@ -29,11 +31,12 @@ pub timers-for-holds : TimersForHolds
 unfolding checkOf runOf
 timers-for-holds table passes few =
     let t = tableIn table in
-    let alike = as-timers-judge-alike t few in
+    let good = well-formed table passes in
+    let alike = as-timers-judge-alike t good few in
     let read = holds-that-table (timersFor table) (asTimers t) (alike .well-formed) refl in (
       read .0,
       λ s. under-passes _ _ (timersFor table) (read .0) ∙ ap (λ x. answerIn form.journal x s) (read .1)
-          ∙ answers-alike t few (alike .run-same form.journal s) ∙ sym (under-passes _ _ table passes),
+          ∙ answers-alike t good few (alike .run-same form.journal s) ∙ sym (under-passes _ _ table passes),
       λ s. under-passes _ _ (timersFor table) (read .0) ∙ ap (λ x. madeUnder x s) (read .1)
-          ∙ runs-alike t few (alike .run-same form.stimulus s) ∙ sym (under-passes _ _ table passes),
+          ∙ runs-alike t good few (alike .run-same form.stimulus s) ∙ sym (under-passes _ _ table passes),
     )

@@ -34,12 +34,15 @@ use Rattle.machine.specs.declared.Gate.the-variants.{Open, Shut}
 use Rattle.machine.specs.declared.Step.{Step}
 use Rattle.machine.specs.declared.Step.the-variants.{Next, Refused}
 use Rattle.machine.specs.Verdict.{Watch, verdictBy, ruleOf, leftOf, stronger, strongest, largest}
-use Rattle.machine.specs.Machine.{start, kindOf, settled, entryInto, stateWatch, timerWatch, timerWatches, verdict, left, stateAfter, agrees, lastChange, regionsAfter, after, gate, through, step, entered}
+use Rattle.machine.specs.Machine.{start, kindOf, settled, entryInto, stateWatch, timerWatch, timerWatches, verdict, left, stateAfter, agrees}
+use Rattle.machine.specs.Machine.{lastChange, regionsAfter, after, gate, through, step, entered}
 use Rattle.machine.specs.Most.{most}
 use Rattle.machine.specs.Run.{mostLeft}
 use Rattle.machine.specs.Walk.{inTable, filled, completed, Walk, ended, stopped, took, onwards, walk, tooLong, ranFrom, recordsRun, opened, runOver}
-use Rattle.machine.specs.AsTimers.{holdingFrom, holding, stateOf, timerRow, setRow, inRows, asTimers, withRegions, Alike, SameRun, both-ran, both-too-long, both-refused, FewHolds, AsTimersJudgeAlike}
-use Rattle.machine.proofs.Watches.{Some, Each, four, each-timer, some-timer, region-after, watch-idle, stronger-idle, rule-by-state, left-by-state, rule-by-timers, left-by-timers, no-timer, no-regions, no-holds}
+use Rattle.machine.specs.AsTimers.{holdingFrom, holding, stateOf, timerRow, setRow, inRows, asTimers, withRegions, Alike}
+use Rattle.machine.specs.AsTimers.{SameRun, both-ran, both-too-long, both-refused, FewHolds, AsTimersJudgeAlike}
+use Rattle.machine.proofs.Watches.{Some, Each, four, each-timer, some-timer, region-after, watch-idle, stronger-idle}
+use Rattle.machine.proofs.Watches.{rule-by-state, left-by-state, rule-by-timers, left-by-timers, no-timer, no-regions, no-holds}
 
 -- ---- The states with a hold
 
@@ -163,15 +166,12 @@ empty n = let none = filled-uses (λ q. q) 0 32 (omega arith) in record { places
 nothing-at : (q : ℕ) → getD (zeros 32) q 0 ≡ 0
 nothing-at q = empty 0 .rest q (omega arith)
 
-module _ (t : Table) (few : FewHolds t) where
+module _ (t : Table) (good : WellFormed t) (few : FewHolds t) where
   abbrev t′ : Table
   t′ = asTimers t
 
   abbrev timers : ℕ
   timers = length (holding t)
-
-  good : WellFormed t
-  good = few .well-formed
 
   -- A state with a hold is the table's, since the rest of the array is 0.
   in-table : (q : ℕ) → 0 < holdOf t q → q < t .states
@@ -409,10 +409,10 @@ module _ (t : Table) (few : FewHolds t) where
       sized false = opening-same (openingOf F (t .inputs) s)
 
 pub as-timers-judge-alike : AsTimersJudgeAlike
-as-timers-judge-alike t few = record {
-  well-formed = well-formed t few;
-  has-timers = has-timers t few;
-  one-state = λ k q l. region-is t few k l q;
-  run-same = run-same t few;
-  left-same = λ input rs. most-same t few rs _ _ (start-alike t few input);
+as-timers-judge-alike t good few = record {
+  well-formed = well-formed t good few;
+  has-timers = has-timers t good few;
+  one-state = λ k q l. region-is t good few k l q;
+  run-same = run-same t good few;
+  left-same = λ input rs. most-same t good few rs _ _ (start-alike t good few input);
 }

@@ -81,7 +81,6 @@ pub data SameRun (t : Table) : Run → Run → Type 0 where
 
 -- A table with holds, of which there are from one to four.
 pub record FewHolds (t : Table) : Type 0 where
-  pub well-formed : WellFormed t
   pub no-timers : t .timers ≡ 0
   pub at-least-one : 1 ≤ length (holding t)
   pub at-most-four : length (holding t) ≤ mostTimers
@@ -96,4 +95,4 @@ pub record JudgesAlike (t : Table) : Type 0 where
   pub left-same : (input : ℕ) (rs : List Record) → mostLeft (asTimers t) (start (t .initial) input) rs ≡ mostLeft t (start (t .initial) input) rs
 
 abbrev pub AsTimersJudgeAlike : Type 0
-AsTimersJudgeAlike = (t : Table) → FewHolds t → JudgesAlike t
+AsTimersJudgeAlike = (t : Table) → WellFormed t → FewHolds t → JudgesAlike t

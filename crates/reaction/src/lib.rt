@@ -1,7 +1,7 @@
 // The reaction calculator: a table, a set of states and a set of inputs go in; the reaction time and the target set come out.
 ghost use mathlib.Core.Path.{_≡_};
 ghost use mathlib.Core.Bool.{true};
-ghost use Prim.Native.Nat.{ℕ, _≤_, max};
+ghost use Prim.Native.Nat.{ℕ, _≤_};
 ghost use lib.ListN.{getD};
 ghost use Rattle.wire.specs.Reply.{numberIn, placeIn};
 ghost use Rattle.sets.specs.Sets.{member};
@@ -21,6 +21,7 @@ use sets::union;
 use sets::within;
 use table::next_state;
 use table::place_in_rows;
+use wire::larger;
 
 // The time and the target, or what is turned down.
 pub enum Answer {
@@ -116,12 +117,6 @@ fn weight(hold: u32, bound: u32, delayed: bool) -> u32
     } else {
         bound
     }
-}
-
-fn larger(a: u32, b: u32) -> u32
-    ensures { λ r. ⌜ r ≡ max a b ⌝ }
-{
-    if a < b { b } else { a }
 }
 
 // The largest weight of these states; 0 where there is none.

@@ -7,7 +7,6 @@ ghost use Rattle.wire.specs.Choice.{_=?_, if_then_else_};
 ghost use Rattle.wire.specs.Field.{fieldAt};
 ghost use Rattle.wire.specs.Reply.{numberIn, placeIn};
 ghost use Rattle.table.specs.declared.Counts as declared;
-ghost use Rattle.table.specs.declared.Table as declared-table;
 ghost use Rattle.table.specs.Answer.{replyOf, _or-else_};
 ghost use Rattle.table.specs.Check.{countsIn, countsInRange, PlacesOf};
 ghost use Rattle.table.specs.Check.{countsAnswer, boundAnswer, holdsAnswer, timerSetsAnswer, timersAnswer, tagged, timingAnswer};
@@ -355,7 +354,7 @@ fn holders_of(timers: usize, states: usize) -> usize
 // How many inputs the table has, for who asks nothing else of it.
 pub fn inputs_in(s: &[u8]) -> u32
     requires { ⌜ tableAnswer (now s) ≡ Answer.Passes ⌝ }
-    ensures { λ r. ⌜ ((t : declared-table.Table) → tableIn (now (s .entry)) ≡ t → r ≡ t .inputs) ⌝ }
+    ensures { λ r. ⌜ r ≡ tableIn (now (s .entry)) .inputs ⌝ }
 {
     wide(counts_in(s).inputs)
 }

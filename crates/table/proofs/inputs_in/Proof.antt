@@ -5,7 +5,6 @@ use native.Mathlib.Omega.{arith}
 use Rattle.table.specs.Check.{tableWith}
 use Rattle.table.proofs.Stands.{table-stands}
 use Rattle.table.specs.declared.Counts.{Counts}
-use Rattle.table.specs.declared.Table.{Table}
 use borrow.Author.Needs.{needs}
 use Rattle.table.proofs.inputs_in.Statement.{statement}
 use Rattle.table.proofs.inputs_in.Tie as tie
@@ -15,8 +14,7 @@ counts-in-requires c κs = omega (arith, table-stands false _ (c .before .pre) .
 
 returns : tie.Need-returns
 unfolding tableWith
-returns c =
-    λ t is. c .wide .ensures .0 ∙ ap (λ (counts : Counts). counts .inputs) (c .before .counts-in .ensures) ∙ ap (λ (u : Table). u .inputs) is
+returns c = c .wide .ensures .0 ∙ ap (λ (counts : Counts). counts .inputs) (c .before .counts-in .ensures)
 
 pub inputs-in-spec : {M : Type 1} → statement M
 inputs-in-spec = tie.close (tie.spec counts-in-requires (λ c κs. search needs) returns)
