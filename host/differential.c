@@ -1242,6 +1242,32 @@ static void old_table_case(void)
            "old table converted: it is not the classroom's");
 }
 
+/* The longest journal: 2,730 cycles of one unit are 11 + 7 x 8,190 bytes of stimulus, and 11 + 8 x 8,190 of journal. With one event
+   more the stimulus is too long. */
+static void longest_case(void)
+{
+    struct plan plan = classroom();
+    struct call call = { .entry = RUN, .table = &table, .input = &input, .output_len = 65531, .answer_len = 4 };
+    size_t starts[6];
+
+    write_table(&plan, 2, 2, &table, starts);
+    pieces[0] = (struct piece){ .kind = OPENING };
+    piece_count = 1;
+    for (uint32_t time = 1; time <= 2730; time++)
+        for (enum kind kind = POLL; kind <= TICK; kind++)
+            pieces[piece_count++] = (struct piece){ .kind = kind, .time = time };
+    pieces[piece_count++] = (struct piece){ .kind = END, .time = 2730 };
+    write_pieces(0x20, &input);
+    expect(input.len == 57341, "the longest journal's stimulus has not 57,341 bytes");
+    compare("longest journal", &call, (const uint64_t[]){ 0, 65531 });
+    call.output_len = 65530;
+    compare("longest journal, room for a byte less", &call, (const uint64_t[]){ REFUSED(30, 0) });
+    pieces[piece_count - 1] = (struct piece){ .kind = POLL, .time = 2731 };
+    pieces[piece_count++] = (struct piece){ .kind = END, .time = 2731 };
+    write_pieces(0x20, &input);
+    compare("an event more than the longest journal's", &call, (const uint64_t[]){ REFUSED(19, 0) });
+}
+
 /* ---- the whole ---- */
 
 static bool can_give(enum entry entry, unsigned number)
@@ -1311,6 +1337,7 @@ int main(int argc, char **argv)
     paper_cases();
     old_table_case();
     timer_cases();
+    longest_case();
     uint64_t asserted = passed, wrong = mismatches;
     for (uint64_t number = 0; number < cases; number++)
         random_case(seed, number);

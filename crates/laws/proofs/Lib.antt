@@ -6,6 +6,8 @@ pub mod Walks
 pub mod Journals
 pub mod Runtimes
 pub mod Never28
+pub mod Lengths
+pub mod Longest
 pub mod Emptied
 pub mod Conversions
 pub mod Timers

@@ -54,7 +54,7 @@ agreed t m r e = go (timeOf r <? m .time) (m .start + t .bound <? timeOf r) (all
     go false false false = omega arith
     go false false true = last (settled m r)
 
-filled-agrees : (t : Table) (m : Machine) (r : Record) → agrees t m (filled t m r) ≡ true
+pub filled-agrees : (t : Table) (m : Machine) (r : Record) → agrees t m (filled t m r) ≡ true
 unfolding filled
 filled-agrees t m (Change time input) = refl
 filled-agrees t m (Poll time blank) = eq-eqb (m .input) (m .input) refl

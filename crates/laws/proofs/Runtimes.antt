@@ -149,14 +149,14 @@ stimulus-of t s j input rs end f = record {
 -- ---- What a run that wrote a journal says
 
 -- The machine went through the stimulus, and the journal is of the records that it took.
-record Wrote (t : Table) (s j : List ℕ) : Type 0 where
-  input : ℕ
-  taken : List Record
-  last : Machine
-  through : runOver form.stimulus t s ≡ ran input taken last
-  is : j ≡ field 0x10 (input ∷ []) ++ bytesFrom form.journal 0 taken
+pub record Wrote (t : Table) (s j : List ℕ) : Type 0 where
+  pub input : ℕ
+  pub taken : List Record
+  pub last : Machine
+  pub through : runOver form.stimulus t s ≡ ran input taken last
+  pub is : j ≡ field 0x10 (input ∷ []) ++ bytesFrom form.journal 0 taken
 
-wrote : (t : Table) (s j : List ℕ) → madeUnder t s ≡ journal j → Wrote t s j
+pub wrote : (t : Table) (s j : List ℕ) → madeUnder t s ≡ journal j → Wrote t s j
 unfolding madeOf
 wrote t s j e = go (runOver form.stimulus t s) refl e
   where

@@ -2,11 +2,13 @@
 use mathlib.Core.Path.{_≡_}
 use mathlib.Core.List.{List, map}
 use mathlib.Core.Logic.{_↔_}
-use Prim.Native.Nat.{ℕ, _≤_}
+use Prim.Native.Nat.{ℕ, _+_, _*_, _≤_}
 use lib.ListN.{length, take}
 use Rattle.wire.specs.Encode.{Bytes}
 use Rattle.table.specs.declared.Table.{Table}
 use Rattle.table.specs.Table.{WellFormed}
+use Rattle.table.specs.declared.Answer.the-variants.{Passes}
+use Rattle.table.specs.Check.{tableAnswer, tableIn}
 use Rattle.table.specs.Encode as tables
 use Rattle.records.specs.declared.Record.{Record}
 use Rattle.records.specs.declared.Refusal.the-variants.{Differs}
@@ -16,7 +18,7 @@ use Rattle.journal.specs.Check.{answerIn, checkOf}
 use Rattle.records.specs.Form as form
 use Rattle.records.specs.Form.{longestJournal, longestStimulus}
 use Rattle.records.specs.Encode.{encode, kept, WrittenAs}
-use Rattle.runtime.specs.declared.Answer.the-variants.{Written, Refused}
+use Rattle.runtime.specs.declared.Answer.the-variants.{Written, Refused, JournalTooLong}
 use Rattle.runtime.specs.Run.{journal, madeUnder, runOf, answerOf, bufferOf}
 use Rattle.machine.specs.Run.{ticksOf}
 use Rattle.machine.specs.Walk.{inTable}
@@ -109,3 +111,27 @@ WritesTheJournal = (table s before : List ℕ) → Bytes table → Bytes s → (
 -- It never gives 28.
 abbrev pub NeverDiffers : Type 0
 NeverDiffers = (table s : List ℕ) (room place : ℕ) → answerOf (runOf table s) room ≡ Refused Differs place → ⊥
+
+-- ---- How long the journal is
+
+-- Of a stimulus with n events it has 11 + 8 × n bytes: opening and end as they are there, and eight for each event.
+abbrev pub EightForAnEvent : Type 0
+EightForAnEvent = (table s j : List ℕ) → runOf table s ≡ journal j →
+    (input : ℕ) (es : List Record) (end : ℕ) → StimulusOf (tableIn table) s input es end → length j ≡ 11 + 8 * length es
+
+-- In a stimulus an event has at least seven bytes, so that 57,344 have room for 8,190 events.
+abbrev pub longestMade : ℕ
+longestMade = 65531
+
+-- No journal that is made is longer,
+abbrev pub NeverTooLong : Type 0
+NeverTooLong = (table s j : List ℕ) → runOf table s ≡ journal j → length j ≤ longestMade
+
+-- and under every table that passes there is one which is that long.
+abbrev pub LongestIsMade : Type 0
+LongestIsMade = (table : List ℕ) → tableAnswer table ≡ Passes →
+    (s : List ℕ) × (j : List ℕ) × Bytes s × (runOf table s ≡ journal j) × (length j ≡ longestMade)
+
+-- So the runtime never gives 29.
+abbrev pub NeverGives29 : Type 0
+NeverGives29 = (table s : List ℕ) (room : ℕ) → answerOf (runOf table s) room ≡ JournalTooLong → ⊥

@@ -1,3 +1,4 @@
+pub mod Lengths
 pub mod Buffers
 pub mod Producing
 pub mod Answering
