@@ -1278,7 +1278,7 @@ static bool can_give(enum entry entry, unsigned number)
         return entry != CONVERT_TABLE; /* it reads by the old rules */
     switch (entry) {
     case CHECK_JOURNAL: return (number >= 19 && number <= 28) || number == 30;
-    case RUN: return (number >= 19 && number <= 27) || number == 30; /* 29 can't come within the stimulus's length */
+    case RUN: return (number >= 19 && number <= 27) || number == 30;
     case REACTION: return number == 9 || number == 10 || number == 14 || number == 30;
     case CONVERT_TABLE: return number == 30;
     default: return false;

@@ -72,16 +72,16 @@
  *     27  poll not later than last change, or than cycle start    start of the field
  *     28  polled input, verdict or state differs from the
  *         machine's                                               start of the field
- *     29  runtime: journal would pass 65,536 bytes                0
  *     30  runtime: buffer shorter than the journal;
  *         converter: buffer shorter than the table;
  *         any function with an answer: it is too short            0
  *
  * The table's refusals, 1 to 8 and 11 to 13, come before all others: field by field; in field 06 entry by entry, each for 7 and
- * then for 11; in field 07 timer by timer, each for 13 at its length and then for 12 at its region; 8 is the last of them. Then, of
- * a journal or a stimulus, 19, and field by field 20 to 28; of the calculator, 14, 9 for the states, 9 for the inputs, 10. Then 29,
- * then 30. The table check has no answer, and gives 1 to 8 and 11 to 13 only. The converter gives none of 11 to 14: it takes tables
- * with holds only, and field 07 is 2 to it.
+ * then for 11; in field 07 timer by timer, each for 13 at its length and then for 12 at its region; 8 is the last of them. Then,
+ * of a journal or a stimulus, 19, and field by field 20 to 28; of the calculator, 14, 9 for the states, 9 for the inputs, 10.
+ * Then 30. The table check has no answer, and gives 1 to 8 and 11 to 13 only. The converter gives none of 11 to 14: it takes
+ * tables with holds only, and field 07 is 2 to it. 29, a journal that would pass 65,536 bytes, is no longer given, since no run
+ * makes one; the number is not used again.
  */
 #ifndef KROSSVIL_H
 #define KROSSVIL_H
@@ -93,7 +93,7 @@
 extern "C" {
 #endif
 
-#define KROSSVIL_JOURNAL_MAX 65536u /* a journal buffer of this size is never too short */
+#define KROSSVIL_JOURNAL_MAX 65536u /* a journal buffer of this size is never too short (proved: no run makes more than 65,531) */
 #define KROSSVIL_STIMULUS_MAX 57344u
 
 #define KROSSVIL_RUN_STACK 80000u /* bytes of stack that are enough for krossvil_run */

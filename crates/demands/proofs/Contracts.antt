@@ -52,7 +52,6 @@ run-numbered (made.Written size) = tt
 run-numbered (made.TableRefused answer) = table-fine answer
 run-numbered made.TooLong = refl
 run-numbered (made.Refused refusal place) = refusal-numbered refusal
-run-numbered made.JournalTooLong = refl
 run-numbered made.BufferTooShort = refl
 
 told-numbered : (reply : Reply) (room : ℕ) → Numbered reply → Numbered (told reply room)

@@ -72,12 +72,11 @@ journal-none (checked.TableRefused answer) h = table-none answer
 journal-none checked.TooLong h = refl
 journal-none (checked.Refused refusal place) h = refl
 
-pub run-none : (a : runtime′.Answer) → OneOf (1 ∷ 2 ∷ 3 ∷ 4 ∷ 5 ∷ []) (tagOf RuntimeT.the-type a) → valuesIn (runtime.replyOf a) ≡ []
-run-none (made.Written size) h = absurd (miss (1 ∷ 2 ∷ 3 ∷ 4 ∷ 5 ∷ []) 0 tt h)
+pub run-none : (a : runtime′.Answer) → OneOf (1 ∷ 2 ∷ 3 ∷ 4 ∷ []) (tagOf RuntimeT.the-type a) → valuesIn (runtime.replyOf a) ≡ []
+run-none (made.Written size) h = absurd (miss (1 ∷ 2 ∷ 3 ∷ 4 ∷ []) 0 tt h)
 run-none (made.TableRefused answer) h = table-none answer
 run-none made.TooLong h = refl
 run-none (made.Refused refusal place) h = refl
-run-none made.JournalTooLong h = refl
 run-none made.BufferTooShort h = refl
 
 pub reaction-none : (a : reaction′.Answer) → OneOf (1 ∷ 2 ∷ 3 ∷ 4 ∷ 5 ∷ []) (tagOf ReactionT.the-type a) → valuesIn (reaction.replyOf a) ≡ []

@@ -2,7 +2,7 @@
 use mathlib.Core.Path.{_≡_, refl}
 use mathlib.Core.List.{List, []}
 use mathlib.Core.Bool.{Bool, true, false, not}
-use Prim.Native.Nat.{ℕ, suc, _*_, _^_, _<_, _≤_}
+use Prim.Native.Nat.{ℕ, suc, _*_, _^_, _≤_}
 use native.Mathlib.Nat.{mul-le-mul}
 use native.Mathlib.Omega.{arith}
 use borrow.Author.Tests.{ltb-false, ltb-true}
@@ -36,6 +36,7 @@ use Rattle.runtime.specs.declared.Answer.the-variants as made
 use Rattle.runtime.specs.Answer as runtime
 use Rattle.runtime.specs.Run as run
 use Rattle.runtime.specs.Run.{Made, madeOf, madeUnder, runOf}
+use Rattle.runtime.proofs.Lengths.{journal-short}
 use Rattle.reaction.specs.declared.Answer.the-variants.{Reacts, TableRefused, HasTimers, UnknownState, UnknownInput, LeavesStates}
 use Rattle.reaction.specs.Answer as reaction
 use Rattle.reaction.specs.Reaction.{firstLeaving, reactionTime, nextSet, forHolds, reactionOf, reactOf}
@@ -140,17 +141,15 @@ run-refuses table s =
 
 pub run-fits : (table s : List ℕ) (room : ℕ) (a : runtime′.Answer) → a ≡ run.answerOf (runOf table s) room → RunFits a
 unfolding run.answerOf
-run-fits table s room a is = rw is (go (runOf table s) (run-refuses table s))
+run-fits table s room a is = rw is (go (runOf table s) refl (run-refuses table s))
   where
-    told : (bytes : List ℕ) (long : Bool) → (longestJournal <? length bytes) ≡ long → (short : Bool) →
-        RunFits (if long then made.JournalTooLong else if short then made.BufferTooShort else made.Written (length bytes))
-    told bytes true e short = small made.JournalTooLong (omega arith) (omega arith) refl
-    told bytes false e true = small made.BufferTooShort (omega arith) (omega arith) refl
-    told bytes false e false = (record { number = omega arith; place = omega arith }, ltb-false longestJournal (length bytes) e)
+    told : (size : ℕ) → size ≤ longestJournal → (short : Bool) → RunFits (if short then made.BufferTooShort else made.Written size)
+    told size few true = small made.BufferTooShort (omega arith) (omega arith) refl
+    told size few false = (record { number = omega arith; place = omega arith }, few)
 
-    go : (m : Made) → Refuses m → RunFits (run.answerOf m room)
-    go (run.refused x) h = h
-    go (run.journal bytes) h = told bytes (longestJournal <? length bytes) refl (room <? length bytes)
+    go : (m : Made) → runOf table s ≡ m → Refuses m → RunFits (run.answerOf m room)
+    go (run.refused x) e h = h
+    go (run.journal bytes) e h = told (length bytes) (omega (arith, journal-short table s bytes e)) (room <? length bytes)
 
 pub reaction-fits : (table : List ℕ) (P A : ℕ) → Fits (reaction.replyOf (reactOf table P A))
 unfolding reactOf forHolds reactionOf

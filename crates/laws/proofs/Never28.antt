@@ -19,7 +19,7 @@ use Rattle.records.specs.declared.Opening.{Opening}
 use Rattle.records.specs.declared.Opening.the-variants as opening
 use Rattle.records.specs.Record.{timeOf}
 use Rattle.records.specs.Refusal.{numberOf}
-use Rattle.records.specs.Form.{longestJournal, journal, stimulus}
+use Rattle.records.specs.Form.{journal, stimulus}
 use Rattle.records.specs.Encode.{bytesFrom}
 use Rattle.records.specs.Reading.{Items, item, done, broken, openingOf, itemsOf}
 use Rattle.records.proofs.Places.{OpensWell, opens-well, Within, items-within}
@@ -29,7 +29,7 @@ use Rattle.machine.specs.declared.Step.{Step}
 use Rattle.machine.specs.declared.Step.the-variants as step
 use Rattle.machine.specs.Machine.{kindOf, allowed, settled, verdict, stateAfter, agrees, after, gate, through, step, start}
 use Rattle.machine.specs.Walk.{inTable, filled, Walk, ended, stopped, took, onwards, walk, Run, ran, tooLong, refused, ranFrom, recordsRun, opened, runOver}
-use Rattle.runtime.specs.declared.Answer.the-variants.{Written, TableRefused, Refused, JournalTooLong, BufferTooShort}
+use Rattle.runtime.specs.declared.Answer.the-variants.{Written, TableRefused, Refused, BufferTooShort}
 use Rattle.runtime.specs.Run as runtime
 use Rattle.runtime.specs.Run.{Made, madeOf, runOf, answerOf}
 use Rattle.laws.specs.Runtimes.{NeverDiffers}
@@ -114,15 +114,11 @@ module _ (room place : ℕ) where
 
   made-never : (r : Run) → FineRun r → Never (madeOf r)
   unfolding madeOf answerOf
-  made-never (ran input taken last) h e = sized (length (field 0x10 (input ∷ []) ++ bytesFrom journal 0 taken)) e
+  made-never (ran input taken last) h e = let size = length (field 0x10 (input ∷ []) ++ bytesFrom journal 0 taken) in go size (room <? size) e
     where
-      sized : (size : ℕ) → (if longestJournal <? size then JournalTooLong else if room <? size then BufferTooShort else Written size) ≡ Refused Differs place → ⊥
-      sized size f = go (longestJournal <? size) (room <? size) f
-        where
-          go : (long short : Bool) → (if long then JournalTooLong else if short then BufferTooShort else Written size) ≡ Refused Differs place → ⊥
-          go true short g = apart cc
-          go false true g = apart cc
-          go false false g = apart cc
+      go : (size : ℕ) (short : Bool) → (if short then BufferTooShort else Written size) ≡ Refused Differs place → ⊥
+      go size true f = apart cc
+      go size false f = apart cc
   made-never tooLong h e = apart cc
   made-never (refused refusal p) h e = let same : refusal ≡ Differs = cc in let low : 28 ≤ 27 = rw same at h in omega arith
 

@@ -21,7 +21,7 @@ use Rattle.records.specs.declared.Record.{Record}
 use Rattle.records.specs.declared.Record.the-variants.{Change, Poll, Test, Tick, End}
 use Rattle.records.specs.Record.{timeOf, isEnd, latest}
 use Rattle.records.specs.Form as form
-use Rattle.records.specs.Form.{longestJournal, longestStimulus}
+use Rattle.records.specs.Form.{longestStimulus}
 use Rattle.records.specs.Encode.{bytesFrom, encode, kept, Writable, Inner}
 use Rattle.records.proofs.Written.{stimulus-recovers}
 use Rattle.machine.specs.declared.Machine.{Machine}
@@ -36,8 +36,9 @@ use Rattle.journal.specs.Check as checks
 use Rattle.journal.specs.Check.{answerIn}
 use Rattle.journal.specs.declared.Numbers.{Numbers}
 use Rattle.journal.specs.declared.Answer.the-variants as answer
-use Rattle.runtime.specs.declared.Answer.the-variants.{Written, TableRefused, JournalTooLong, BufferTooShort}
+use Rattle.runtime.specs.declared.Answer.the-variants.{Written, TableRefused, BufferTooShort}
 use Rattle.runtime.specs.Run.{Made, journal, refused, madeOf, madeUnder, runOf, answerOf, bufferOf}
+use Rattle.runtime.proofs.Lengths.{under-short}
 use Rattle.laws.specs.Walks.{RunsOver}
 use Rattle.laws.specs.Journals.{AcceptedRun, JournalOf}
 use Rattle.laws.specs.Runtimes as laws
@@ -201,7 +202,7 @@ keeps-the-stimulus t good s bytes j e =
     (w .input, f .inside, o .end, record { journal = f .journal-is; stimulus = rw (f .events-are) (o .written .is) })
 
 pub writes-accepted : WritesAccepted
-writes-accepted t good s input es end st j e short =
+writes-accepted t good s input es end st j e =
     let f = filled t good s input es end st j e in
     let state = f .last .state in
     let n : Numbers = record {
@@ -214,7 +215,7 @@ writes-accepted t good s input es end st j e short =
       longest = f .last .longest;
     } in
     let a : AcceptedRun form.journal t j n = record {
-      short = short;
+      short = omega (arith, rw e at (under-short t s));
       input = input;
       records = f .inside;
       written = f .journal-is;
@@ -281,28 +282,24 @@ never-refused t s size e = go (runOver form.stimulus t s) e
     go tooLong f = apart cc
     go (walk.refused refusal place) f = apart cc
 
--- A journal that is within its limit and has room.
-fitting : (j : List ℕ) (room size : ℕ) → answerOf (journal j) room ≡ Written size → (length j ≡ size) × (size ≤ room) × (size ≤ longestJournal)
+-- A journal that has room.
+fitting : (j : List ℕ) (room size : ℕ) → answerOf (journal j) room ≡ Written size → (length j ≡ size) × (size ≤ room)
 unfolding answerOf
-fitting j room size e = go (longestJournal <? length j) refl (room <? length j) refl e
+fitting j room size e = go (room <? length j) refl e
   where
-    go : (a : Bool) → (longestJournal <? length j) ≡ a → (b : Bool) → (room <? length j) ≡ b →
-        (if a then JournalTooLong else if b then BufferTooShort else Written (length j)) ≡ Written size →
-        (length j ≡ size) × (size ≤ room) × (size ≤ longestJournal)
-    go true ea b eb f = apart cc
-    go false ea true eb f = apart cc
-    go false ea false eb f =
+    go : (short : Bool) → (room <? length j) ≡ short → (if short then BufferTooShort else Written (length j)) ≡ Written size → (length j ≡ size) × (size ≤ room)
+    go true is f = apart cc
+    go false is f =
         let same : length j ≡ size = cc in
-        let short = ltb-false longestJournal (length j) ea in
-        let fits = ltb-false room (length j) eb in
-        (same, omega arith, omega arith)
+        let fits = ltb-false room (length j) is in
+        (same, omega arith)
 
 module _ (t : Table) (good : WellFormed t) (s : List ℕ) (bytes : Bytes s) where
-  accepted-for : (j : List ℕ) → madeUnder t s ≡ journal j → length j ≤ longestJournal → AcceptedFor t s j
-  accepted-for j e short =
+  accepted-for : (j : List ℕ) → madeUnder t s ≡ journal j → AcceptedFor t s j
+  accepted-for j e =
       let k = keeps-the-stimulus t good s bytes j e in
       let st = stimulus-of t s j (k .0) (k .1) (k .2) (k .3) in
-      let a = writes-accepted t good s (k .0) (map eventFor (k .1)) (k .2) st j e short in
+      let a = writes-accepted t good s (k .0) (map eventFor (k .1)) (k .2) st j e in
       record {
         input = k .0;
         records = k .1;
@@ -324,17 +321,15 @@ module _ (t : Table) (good : WellFormed t) (s : List ℕ) (bytes : Bytes s) wher
           let w = wrote t s j is in
           record {
             journal = j;
-            accepted = accepted-for j is (omega (arith, p .0, p .2));
+            accepted = accepted-for j is;
             size-is = p .0;
             fits = p .1;
-            within = p .2;
             short = went-through form.stimulus t s (w .input) (w .taken) (w .last) (w .through) .short;
           }
 
   succeeds : (room size : ℕ) → laws.Writable t s room size → answerOf (madeUnder t s) room ≡ Written size
   unfolding answerOf
-  succeeds room size w =
-      rw (writes t s (w .journal) (w .short) (w .accepted), w .size-is, le-ltb longestJournal size (w .within), le-ltb room size (w .fits)) refl
+  succeeds room size w = rw (writes t s (w .journal) (w .short) (w .accepted), w .size-is, le-ltb room size (w .fits)) refl
 
 pub succeeds-exactly : SucceedsExactly
 succeeds-exactly t good s bytes room size = (succeeded t good s bytes room size, succeeds t good s bytes room size)
@@ -366,12 +361,11 @@ runs-exactly table s table-bytes bytes room size = (
 )
 
 -- A journal that fits stands at the start of the buffer.
-in-front : (j before : List ℕ) (size : ℕ) → length j ≡ size → size ≤ length before → size ≤ longestJournal → take size (bufferOf (journal j) before) ≡ j
+in-front : (j before : List ℕ) (size : ℕ) → length j ≡ size → size ≤ length before → take size (bufferOf (journal j) before) ≡ j
 unfolding bufferOf answerOf
-in-front j before size is fits within =
-    let short = le-ltb longestJournal (length j) (omega arith) in
+in-front j before size is fits =
     let has-room = le-ltb (length before) (length j) (omega arith) in
-    rw (← is) (simp (short, has-room) (take-append-seam j (drop (length j) before)))
+    rw (← is) (simp has-room (take-append-seam j (drop (length j) before)))
 
 pub writes-the-journal : WritesTheJournal
 writes-the-journal table s before table-bytes bytes size e =
@@ -379,16 +373,15 @@ writes-the-journal table s before table-bytes bytes size e =
     let w = p .3 in
     let made = writes (p .0) s (w .journal) (w .short) (w .accepted) in
     let same = sym (runs-under table s (p .0) (p .1) (p .2)) ∙ made in
-    let front = ap (λ r. take size (bufferOf r before)) same ∙ in-front (w .journal) before size (w .size-is) (w .fits) (w .within) in
-    let short : length (w .journal) ≤ longestJournal = omega (arith, w .size-is, w .within) in
-    rw front (only-journal table s bytes (p .0) (p .1) (p .2) (w .journal) made short)
+    let front = ap (λ r. take size (bufferOf r before)) same ∙ in-front (w .journal) before size (w .size-is) (w .fits) in
+    rw front (only-journal table s bytes (p .0) (p .1) (p .2) (w .journal) made)
   where
     only-journal : (table′ s′ : List ℕ) → Bytes s′ → (t : Table) → WellFormed t → table′ ≡ tables.encode t → (j : List ℕ) → madeUnder t s′ ≡ journal j →
-        length j ≤ longestJournal → OnlyJournal table′ s′ j
-    only-journal table′ s′ bytes′ t good is j made short =
+        OnlyJournal table′ s′ j
+    only-journal table′ s′ bytes′ t good is j made =
         let k = keeps-the-stimulus t good s′ bytes′ j made in
         let st = stimulus-of t s′ j (k .0) (k .1) (k .2) (k .3) in
-        let a = writes-accepted t good s′ (k .0) (map eventFor (k .1)) (k .2) st j made short in
+        let a = writes-accepted t good s′ (k .0) (map eventFor (k .1)) (k .2) st j made in
         record {
           under = t;
           well-formed = good;

@@ -16,9 +16,9 @@ use Rattle.journal.specs.declared.Numbers.{Numbers}
 use Rattle.journal.specs.declared.Answer.the-variants.{Accepted}
 use Rattle.journal.specs.Check.{answerIn, checkOf}
 use Rattle.records.specs.Form as form
-use Rattle.records.specs.Form.{longestJournal, longestStimulus}
+use Rattle.records.specs.Form.{longestStimulus}
 use Rattle.records.specs.Encode.{encode, kept, WrittenAs}
-use Rattle.runtime.specs.declared.Answer.the-variants.{Written, Refused, JournalTooLong}
+use Rattle.runtime.specs.declared.Answer.the-variants.{Written, Refused}
 use Rattle.runtime.specs.Run.{journal, madeUnder, runOf, answerOf, bufferOf}
 use Rattle.machine.specs.Run.{ticksOf}
 use Rattle.machine.specs.Walk.{inTable}
@@ -49,7 +49,7 @@ KeepsTheStimulus = (t : Table) → WellFormed t → (s : List ℕ) → Bytes s �
 -- The journal check accepts it under the same table, with the stimulus's T and number of ticks.
 abbrev pub WritesAccepted : Type 0
 WritesAccepted = (t : Table) → WellFormed t → (s : List ℕ) (input : ℕ) (es : List Record) (end : ℕ) → StimulusOf t s input es end →
-    (j : List ℕ) → madeUnder t s ≡ journal j → length j ≤ longestJournal →
+    (j : List ℕ) → madeUnder t s ≡ journal j →
     (n : Numbers) × (n .end ≡ end) × (n .ticks ≡ ticksOf es) × (answerIn form.journal t j ≡ Accepted n)
 
 -- The bytes j are an accepted journal, and s is its stimulus.
@@ -66,13 +66,12 @@ pub record AcceptedFor (t : Table) (s j : List ℕ) : Type 0 where
 abbrev pub WritesTheOnly : Type 0
 WritesTheOnly = (t : Table) (s j : List ℕ) → madeUnder t s ≡ journal j → (j′ : List ℕ) → AcceptedFor t s j′ → j′ ≡ j
 
--- An accepted journal of this many bytes exists for the stimulus; it fits the buffer, and both are within their limits.
+-- An accepted journal of this many bytes exists for the stimulus; it fits the buffer, and the stimulus is within its limit.
 pub record Writable (t : Table) (s : List ℕ) (room size : ℕ) : Type 0 where
   pub journal : List ℕ
   pub accepted : AcceptedFor t s journal
   pub size-is : length journal ≡ size
   pub fits : size ≤ room
-  pub within : size ≤ longestJournal
   pub short : length s ≤ longestStimulus
 
 -- The runtime succeeds exactly then.
@@ -123,15 +122,11 @@ EightForAnEvent = (table s j : List ℕ) → runOf table s ≡ journal j →
 abbrev pub longestMade : ℕ
 longestMade = 65531
 
--- No journal that is made is longer,
+-- No journal that is made is longer, so that none passes the 65,536 bytes that a journal may have;
 abbrev pub NeverTooLong : Type 0
 NeverTooLong = (table s j : List ℕ) → runOf table s ≡ journal j → length j ≤ longestMade
 
--- and under every table that passes there is one which is that long.
+-- and under every table that passes one is that long.
 abbrev pub LongestIsMade : Type 0
 LongestIsMade = (table : List ℕ) → tableAnswer table ≡ Passes →
     (s : List ℕ) × (j : List ℕ) × Bytes s × (runOf table s ≡ journal j) × (length j ≡ longestMade)
-
--- So the runtime never gives 29.
-abbrev pub NeverGives29 : Type 0
-NeverGives29 = (table s : List ℕ) (room : ℕ) → answerOf (runOf table s) room ≡ JournalTooLong → ⊥
