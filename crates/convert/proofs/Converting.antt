@@ -4,11 +4,12 @@ use mathlib.Core.List.{List, _++_}
 use mathlib.Core.Bool.{true}
 use Prim.Native.Nat.{ℕ, _+_, _<_, _≤_}
 use native.Mathlib.Omega.{arith}
-use borrow.Author.Tests.{lt-ltb, le-ltb}
 use lib.ListN.{length, take, drop, length-append}
 use lib.Seq.{length-take-le, take-length, take-append-le, drop-at}
 use Rattle.wire.specs.Encode.{placedIn}
-use Rattle.wire.specs.Made.{answerIn, bufferIn}
+use Rattle.wire.specs.Made.{made}
+use Rattle.wire.proofs.Made as writers
+use Rattle.wire.proofs.Made.{owed-refused, owed-short, owed-made}
 use Rattle.table.specs.declared.Answer as table
 use Rattle.table.specs.declared.Answer.the-variants.{Passes}
 use Rattle.table.specs.Entries.{values}
@@ -21,13 +22,17 @@ use Rattle.convert.specs.declared.Answer.the-variants.{Converted, TableR
 use Rattle.convert.specs.Convert.{newSet, byState, newBytes, changes, madeOf}
 use Rattle.convert.proofs.Writing.{length-sets}
 
+pub is-made : (s : List ℕ) → oldAnswer s ≡ Passes → madeOf s ≡ made (Converted (changes (countsIn s) s)) (newBytes (countsIn s) s)
+unfolding madeOf
+is-made s passes = rw passes refl
+
 module _ (s buffer : List ℕ) where
   abbrev Owed : Answer → List ℕ → Type 0
-  Owed answer after = (answer ≡ answerIn BufferTooShort (madeOf s) (length buffer)) × (after ≡ bufferIn (madeOf s) buffer)
+  Owed answer after = writers.Owed BufferTooShort (madeOf s) answer buffer after
 
   pub table-refused : (a : table.Answer) → a ≡ oldAnswer s → Refused a → Owed (TableRefused a) buffer
-  unfolding madeOf answerIn bufferIn
-  table-refused a is h = let r = rw is at (refuses a h) in rw (r, is) (refl, refl)
+  unfolding madeOf
+  table-refused a is h = let r = rw is at (refuses a h) in owed-refused _ (madeOf s) _ buffer (rw (r, is) refl)
 
   module _ (passes : oldAnswer s ≡ Passes) where
     stands : HoldsStand true s (countsIn s)
@@ -48,8 +53,7 @@ module _ (s buffer : List ℕ) where
         length-append (take start s) sets ∙ omega (arith, front, back, stands .ends)
 
     pub no-room : length buffer < length s → Owed BufferTooShort buffer
-    unfolding madeOf answerIn bufferIn
-    no-room h = rw (passes, new-length, lt-ltb (length buffer) (length s) h) (refl, refl)
+    no-room h = owed-short _ _ _ _ buffer (is-made s passes) (rw new-length h)
 
     -- The old table was copied, and then its sets were written over.
     module _ (copied : List ℕ) (copy : copied ≡ take (length s) s ++ drop (length s) buffer) where
@@ -65,10 +69,7 @@ module _ (s buffer : List ℕ) where
 
       pub converted : length s ≤ length buffer → (out : List ℕ) → out ≡ placedIn copied start sets →
           (changed : ℕ) → changed ≡ changes (countsIn s) s → Owed (Converted changed) out
-      unfolding madeOf answerIn bufferIn
-      converted room out o changed n =
-          let enough = le-ltb (length buffer) (length (newBytes (countsIn s) s)) (rw new-length room) in
-          rw (passes, enough, n) (refl, o ∙ written)
+      converted room out o changed n = rw n (owed-made _ _ _ _ buffer (is-made s passes) (rw new-length room) out (o ∙ written))
 
 -- The buffer with the copy is as long as the old table at least.
 pub copied-long : (s buffer copied : List ℕ) → copied ≡ take (length s) s ++ drop (length s) buffer → length s ≤ length copied

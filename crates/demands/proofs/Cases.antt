@@ -2,6 +2,7 @@
 use mathlib.Core.Path.{refl}
 use Rattle.wire.specs.Encode.{field}
 use Rattle.wire.specs.Field.{fieldAt}
+use Rattle.wire.specs.Made.{answerIn, bufferIn}
 use Rattle.sets.specs.Sets.{some, setOf, largest}
 use Rattle.table.specs.Answer.{_or-else_, _and-then_}
 use Rattle.table.specs.Entries.{entriesFrom, values}
@@ -21,16 +22,15 @@ use Rattle.machine.specs.Walk.{filled, walk, recordsRun, opened, runOver}
 use Rattle.journal.specs.Check as journal
 use Rattle.journal.specs.Check.{checkOf}
 use Rattle.reaction.specs.Reaction.{nextSet, weightOf, reactionTime, firstFrom, firstLeaving, reactionOf, forHolds, reactOf}
-use Rattle.runtime.specs.Run as runtime
-use Rattle.runtime.specs.Run.{madeOf, runOf, bufferOf}
+use Rattle.runtime.specs.Run.{madeOf, runOf}
 use Rattle.demands.specs.Cases.{CasesHold, Sizes}
 
 pub cases-hold : CasesHold
 unfolding field fieldAt some setOf largest _or-else_ _and-then_ entriesFrom values tables.encode words named fieldAnswer rowAnswer below badWord setAnswer tagged timing
     countsAnswer boundAnswer holdsAnswer timingAnswer entriesAnswer answerBy timersIn tableWith underTable lengthFits knownIn knownWith openingIn openingWith recordOf
     ranged recordIn recordAt itemsFrom itemsOf bytesOf bytesFrom encode ruleBy strongest watch.largest rule verdict left regionsAfter stateAfter lastChange gate step ticksOf movesOf most filled walk
-    recordsRun opened runOver journal.answerOf checkOf nextSet weightOf reactionTime firstFrom firstLeaving reactionOf forHolds reactOf madeOf runOf runtime.answerOf
-    bufferOf
+    recordsRun opened runOver journal.answerOf checkOf nextSet weightOf reactionTime firstFrom firstLeaving reactionOf forHolds reactOf madeOf runOf answerIn
+    bufferIn
 cases-hold = (refl, refl)
 
 pub sizes : Sizes

@@ -3,7 +3,6 @@ use mathlib.Core.Path.{_≡_, refl, sym, ap, _∙_}
 use mathlib.Core.List.{List, [], _∷_, _++_}
 use mathlib.Core.Bool.{Bool, true, false}
 use Prim.Native.Nat.{ℕ, _*_}
-use borrow.Author.Tests.{ne-eqb}
 use denote.Ref.{now}
 use lib.ListN.{length, drop}
 use Rattle.wire.specs.Choice.{_<?_, _=?_, if_then_else_}
@@ -16,12 +15,13 @@ use Rattle.table.specs.Answer as table-answer
 use Rattle.runtime.specs.declared.Answer as runtime′
 use Rattle.runtime.specs.declared.Answer.the-variants as made
 use Rattle.runtime.specs.Answer as run-answer
-use Rattle.runtime.specs.Run.{runOf, answerOf, bufferOf}
+use Rattle.runtime.specs.Run.{runOf, answerOf}
 use Rattle.convert.specs.declared.Answer as convert′
 use Rattle.convert.specs.declared.Answer.the-variants as done
 use Rattle.convert.specs.Answer as convert-answer
 use Rattle.convert.specs.Convert.{madeOf}
 use Rattle.krossvil.proofs.Writers.{Gives}
+use Rattle.krossvil.proofs.Runs.{run-gives}
 use Rattle.krossvil.proofs.Converts.{convert-gives}
 use Rattle.krossvil.specs.Host.{told, codeOf, numberBytes, answerAfter, journalTold, bufferAfter, reactionTold}
 use Rattle.laws.proofs.Never28.{never-differs}
@@ -122,10 +122,10 @@ every-entry-determines = (
 )
 
 pub every-refusal-keeps : EveryRefusalKeeps
-unfolding bufferOf
 every-refusal-keeps = (
   λ κs a r s p other.
-      one (p .1 ∙ rw (ne-eqb _ 0 (λ e. other (ap (λ x. numberIn (run-answer.replyOf x)) (p .0) ∙ e))) refl),
+      one (p .1 ∙ made-kept run-answer.replyOf made.BufferTooShort 1 (runOf (now (a .0)) (now (a .1 .0))) (run-gives (now (a .0)) (now (a .1 .0)))
+      (now (a .1 .1 .0)) (λ e. other (ap (λ x. numberIn (run-answer.replyOf x)) (p .0) ∙ e))),
   λ κs a r s p other.
       one (p .1 ∙ made-kept convert-answer.replyOf done.BufferTooShort 1 (madeOf (now (a .0))) (convert-gives (now (a .0))) (now (a .1 .0))
       (λ e. other (ap (λ x. numberIn (convert-answer.replyOf x)) (p .0) ∙ e))),
@@ -136,7 +136,7 @@ every-refusal-keeps = (
       let buffer = now (a .1 .1 .0) in
       let made-is = runOf (now (a .0)) (now (a .1 .0)) in
       both-kept (run-answer.replyOf (answerOf made-is (length buffer))) (run-numbered (answerOf made-is (length buffer)))
-      (bufferOf made-is buffer) buffer (now (a .1 .1 .1 .0)) _ (p .1 .1) _ (p .1 .0) (λ e. other (p .0 ∙ e)),
+      (bufferIn made-is buffer) buffer (now (a .1 .1 .1 .0)) _ (p .1 .1) _ (p .1 .0) (λ e. other (p .0 ∙ e)),
   λ κs a r s p other.
       let answer = now (a .1 .1 .1 .0) in
       one (p .1 ∙ answer-kept (reactionTold (now (a .0)) (a .1 .0) (a .1 .1 .0) (length answer)) answer (λ e. other (p .0 ∙ e))),

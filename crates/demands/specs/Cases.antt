@@ -3,6 +3,7 @@ use mathlib.Core.Path.{_≡_}
 use mathlib.Core.List.{List, [], _∷_, _++_, map}
 use Prim.Native.Nat.{ℕ}
 use lib.ListN.{length}
+use Rattle.wire.specs.Made.{bufferIn}
 use Rattle.wire.specs.Reply.{Reply, gives, refuses}
 use Rattle.table.specs.declared.Table.{Table}
 use Rattle.table.specs.Entries.{zeros, padded}
@@ -17,7 +18,7 @@ use Rattle.journal.specs.Check.{checkOf}
 use Rattle.reaction.specs.Answer as reaction
 use Rattle.reaction.specs.Reaction.{reactOf}
 use Rattle.runtime.specs.Answer as runtime
-use Rattle.runtime.specs.Run.{runOf, answerOf, bufferOf}
+use Rattle.runtime.specs.Run.{runOf, answerOf}
 
 -- ---- The classroom table and its run
 
@@ -114,7 +115,7 @@ cases =
 abbrev pub CasesHold : Type 0
 CasesHold =
     (map (λ c. c .reply) cases ≡ map (λ c. c .expected) cases)
-    × (bufferOf (runOf classroom (stimulus 0 (runWith 0) 12)) (zeros 123) ≡ encode 0 (runWith 0) 12)
+    × (bufferIn (runOf classroom (stimulus 0 (runWith 0) 12)) (zeros 123) ≡ encode 0 (runWith 0) 12)
 
 -- The bytes of the classroom table, of its journal and of its stimulus.
 abbrev pub Sizes : Type 0

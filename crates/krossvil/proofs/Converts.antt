@@ -6,11 +6,11 @@ use Prim.Native.Nat.{ℕ}
 use native.Mathlib.Omega.{arith}
 use types.Run.{OneOf, miss}
 use denote.Enum.Declared.{tagOf}
-use lib.ListN.{length}
-use Rattle.wire.specs.Choice.{_<?_, if_then_else_}
+use Rattle.wire.specs.Choice.{if_then_else_}
 use Rattle.wire.specs.Made as made
 use Rattle.wire.specs.Made.{answerIn, bufferIn}
 use Rattle.wire.specs.Reply.{valuesIn}
+use Rattle.wire.proofs.Made.{answerMade, answer-either}
 use Rattle.table.specs.Answer.{passes?}
 use Rattle.table.specs.Check.{countsIn, oldAnswer}
 use Rattle.convert.specs.declared.Answer.{Answer}
@@ -40,14 +40,12 @@ pub convert-writes : (table : List ℕ) → Writes 1 (λ room. replyOf (answerIn
 convert-writes table = made-writes replyOf BufferTooShort refl 1 (madeOf table) (convert-gives table)
 
 pub convert-fits : (table : List ℕ) (room : ℕ) (a : Answer) → a ≡ answerIn BufferTooShort (madeOf table) room → Fits (replyOf a)
-unfolding madeOf answerIn
-convert-fits table room a is = rw is (go (passes? (oldAnswer table)))
+unfolding madeOf
+convert-fits table room a is =
+    rw is (answer-either (λ x. Fits (replyOf x)) BufferTooShort (record { number = omega arith; place = omega arith }) (madeOf table)
+    (go (passes? (oldAnswer table))) room)
   where
-    last : (b : Bool) → Fits (replyOf (if b then BufferTooShort else Converted (changes (countsIn table) table)))
-    last true = record { number = omega arith; place = omega arith }
-    last false = record { number = omega arith; place = omega arith }
-
-    go : (b : Bool) → Fits (replyOf (answerIn BufferTooShort (if b then made.made (Converted (changes (countsIn table) table)) (newBytes (countsIn table) table)
-        else made.refused (TableRefused (oldAnswer table))) room))
-    go true = last (room <? length (newBytes (countsIn table) table))
+    go : (b : Bool) → Fits (replyOf (answerMade (if b then made.made (Converted (changes (countsIn table) table)) (newBytes (countsIn table) table)
+        else made.refused (TableRefused (oldAnswer table)))))
+    go true = record { number = omega arith; place = omega arith }
     go false = table-fits true table

@@ -8,7 +8,9 @@ use native.Mathlib.Omega.{arith}
 use borrow.Author.Tests.{ltb-false, ltb-true}
 use lib.ListN.{length, getD}
 use Rattle.wire.specs.Choice.{_<?_, _=?_, if_then_else_}
+use Rattle.wire.specs.Made as Made
 use Rattle.wire.specs.Reply.{numberIn, placeIn, valuesIn}
+use Rattle.wire.proofs.Made.{answerMade, answer-either}
 use Rattle.table.specs.declared.Table.{Table}
 use Rattle.table.specs.Table.{WellFormed}
 use Rattle.table.specs.Check.{tableAnswer, tableIn}
@@ -35,8 +37,8 @@ use Rattle.runtime.specs.declared.Answer as runtime′
 use Rattle.runtime.specs.declared.Answer.the-variants as made
 use Rattle.runtime.specs.Answer as runtime
 use Rattle.runtime.specs.Run as run
-use Rattle.runtime.specs.Run.{Made, madeOf, madeUnder, runOf}
-use Rattle.runtime.proofs.Lengths.{journal-short}
+use Rattle.runtime.specs.Run.{madeOf, madeUnder, runOf}
+use Rattle.runtime.proofs.Lengths.{Short, under-short}
 use Rattle.reaction.specs.declared.Answer.the-variants.{Reacts, TableRefused, HasTimers, UnknownState, UnknownInput, LeavesStates}
 use Rattle.reaction.specs.Answer as reaction
 use Rattle.reaction.specs.Reaction.{firstLeaving, reactionTime, nextSet, forHolds, reactionOf, reactOf}
@@ -120,36 +122,21 @@ RunFits a = Fits (runtime.replyOf a) × (getD (valuesIn (runtime.replyOf a)) 0 0
 small : (a : runtime′.Answer) → numberIn (runtime.replyOf a) ≤ 30 → placeIn (runtime.replyOf a) ≤ 1000000 → valuesIn (runtime.replyOf a) ≡ [] → RunFits a
 small a n p none = (record { number = n; place = omega arith }, rw none (omega arith))
 
-abbrev Refuses : Made → Type 0
-Refuses (run.journal bytes) = Unit
-Refuses (run.refused a) = RunFits a
-
-made-fits : (t : Table) (s : List ℕ) → Refuses (madeUnder t s)
+made-fits : (t : Table) (s : List ℕ) → RunFits (answerMade (madeUnder t s))
 unfolding madeOf
-made-fits t s = go (runOver stimulus t s) (run-by stimulus (omega arith) t s)
+made-fits t s = go (runOver stimulus t s) (run-by stimulus (omega arith) t s) (under-short t s)
   where
-    go : (r : Run) → RunBy r → Refuses (madeOf r)
-    go (ran input taken last) h = tt
-    go tooLong h = small made.TooLong (omega arith) (omega arith) refl
-    go (refused refusal place) h = small (made.Refused refusal place) (refusal-small refusal) h refl
-
-run-refuses : (table s : List ℕ) → Refuses (runOf table s)
-unfolding runOf
-run-refuses table s =
-    under-either (λ a. run.refused (made.TableRefused a)) (λ t. madeUnder t s) table Refuses (λ e. made-fits (tableIn table) s)
-    (table-fits false table, rw (table-none (tableAnswer table)) (omega arith))
+    go : (r : Run) → RunBy r → Short (madeOf r) → RunFits (answerMade (madeOf r))
+    go (ran input taken last) h short = (record { number = omega arith; place = omega arith }, omega arith)
+    go tooLong h short = small made.TooLong (omega arith) (omega arith) refl
+    go (refused refusal place) h short = small (made.Refused refusal place) (refusal-small refusal) h refl
 
 pub run-fits : (table s : List ℕ) (room : ℕ) (a : runtime′.Answer) → a ≡ run.answerOf (runOf table s) room → RunFits a
-unfolding run.answerOf
-run-fits table s room a is = rw is (go (runOf table s) refl (run-refuses table s))
-  where
-    told : (size : ℕ) → size ≤ longestJournal → (short : Bool) → RunFits (if short then made.BufferTooShort else made.Written size)
-    told size few true = small made.BufferTooShort (omega arith) (omega arith) refl
-    told size few false = (record { number = omega arith; place = omega arith }, few)
-
-    go : (m : Made) → runOf table s ≡ m → Refuses m → RunFits (run.answerOf m room)
-    go (run.refused x) e h = h
-    go (run.journal bytes) e h = told (length bytes) (omega (arith, journal-short table s bytes e)) (room <? length bytes)
+unfolding runOf
+run-fits table s room a is =
+    rw is (answer-either RunFits made.BufferTooShort (small made.BufferTooShort (omega arith) (omega arith) refl) (runOf table s)
+    (under-either (λ x. Made.refused (made.TableRefused x)) (λ t. madeUnder t s) table (λ m. RunFits (answerMade m)) (λ e. made-fits (tableIn table) s)
+    (table-fits false table, rw (table-none (tableAnswer table)) (omega arith))) room)
 
 pub reaction-fits : (table : List ℕ) (P A : ℕ) → Fits (reaction.replyOf (reactOf table P A))
 unfolding reactOf forHolds reactionOf

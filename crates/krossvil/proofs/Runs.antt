@@ -1,25 +1,27 @@
 -- The runtime as an entry that writes.
-use mathlib.Core.Path.{_≡_, refl}
+use mathlib.Core.Path.{refl}
 use mathlib.Core.List.{List, [], _∷_}
-use mathlib.Core.Bool.{Bool, true, false}
 use Prim.Native.Nat.{ℕ}
-use borrow.Author.Tests.{lt-ltb}
-use lib.ListN.{length}
-use Rattle.wire.specs.Choice.{_<?_, _=?_, if_then_else_}
-use Rattle.wire.specs.Reply.{numberIn}
-use Rattle.runtime.specs.declared.Answer.the-variants.{Written, BufferTooShort}
+use Rattle.wire.specs.Made as made
+use Rattle.wire.specs.Made.{bufferIn}
+use Rattle.table.specs.Check.{tableIn}
+use Rattle.table.proofs.Under.{under-either}
+use Rattle.records.specs.Form.{stimulus}
+use Rattle.machine.specs.Walk.{Run, ran, tooLong, refused, runOver}
+use Rattle.runtime.specs.declared.Answer.the-variants.{TableRefused, BufferTooShort}
 use Rattle.runtime.specs.Answer.{replyOf}
-use Rattle.runtime.specs.Run.{Made, journal, refused, answerOf, bufferOf}
-use Rattle.krossvil.proofs.Writers.{Writes, never, makes, told-made}
+use Rattle.runtime.specs.Run.{madeOf, madeUnder, runOf, answerOf}
+use Rattle.krossvil.proofs.Writers.{Writes, Gives, made-writes}
 
-pub run-writes : (m : Made) → Writes 1 (λ room. replyOf (answerOf m room)) (bufferOf m)
-unfolding answerOf bufferOf
-run-writes (refused a) = never (replyOf a) (λ room. refl) (λ buffer. same (numberIn (replyOf a) =? 0) buffer)
+pub run-gives : (table s : List ℕ) → Gives replyOf 1 (runOf table s)
+unfolding runOf madeOf
+run-gives table s =
+    under-either (λ a. made.refused (TableRefused a)) (λ t. madeUnder t s) table (Gives replyOf 1) (λ passed. go (runOver stimulus (tableIn table) s)) tt
   where
-    same : (b : Bool) (buffer : List ℕ) → (if b then buffer else buffer) ≡ buffer
-    same true buffer = refl
-    same false buffer = refl
-run-writes (journal bytes) =
-    let size = length bytes in
-    makes size (size ∷ []) refl (λ room. told-made replyOf BufferTooShort (Written size) (size ∷ []) refl refl (room <? size))
-    (λ buffer h. rw (lt-ltb (length buffer) size h) refl)
+    go : (r : Run) → Gives replyOf 1 (madeOf r)
+    go (ran input taken last) = (_ ∷ [], refl, refl)
+    go tooLong = tt
+    go (refused refusal place) = tt
+
+pub run-writes : (table s : List ℕ) → Writes 1 (λ room. replyOf (answerOf (runOf table s) room)) (bufferIn (runOf table s))
+run-writes table s = made-writes replyOf BufferTooShort refl 1 (runOf table s) (run-gives table s)

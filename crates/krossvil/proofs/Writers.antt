@@ -89,7 +89,7 @@ module _ (k : ℕ) (replyIn : ℕ → Reply) (written : List ℕ → List ℕ) (
 
 -- ---- What was made
 
-pub told-made : {A : Type 0} (replyOf : A → Reply) (short a : A) (values : List ℕ) → replyOf short ≡ refuses 30 0 → replyOf a ≡ gives values → (full : Bool) →
+told-made : {A : Type 0} (replyOf : A → Reply) (short a : A) (values : List ℕ) → replyOf short ≡ refuses 30 0 → replyOf a ≡ gives values → (full : Bool) →
     replyOf (if full then short else a) ≡ (if full then refuses 30 0 else gives values)
 told-made replyOf short a values thirty gave true = thirty
 told-made replyOf short a values thirty gave false = gave

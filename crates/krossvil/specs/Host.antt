@@ -9,7 +9,7 @@ use Rattle.wire.specs.Reply.{Reply, refuses, numberIn, placeIn, valuesIn}
 use Rattle.journal.specs.Answer as journal
 use Rattle.journal.specs.Check.{checkOf}
 use Rattle.runtime.specs.Answer as runtime
-use Rattle.runtime.specs.Run.{runOf, answerOf, bufferOf}
+use Rattle.runtime.specs.Run.{runOf, answerOf}
 use Rattle.convert.specs.declared.Answer.the-variants.{BufferTooShort}
 use Rattle.convert.specs.Answer as convert
 use Rattle.convert.specs.Convert as convert′
@@ -50,7 +50,7 @@ abbrev pub runTold : List ℕ → List ℕ → List ℕ → ℕ → Reply
 runTold table stimulus buffer room = told (runtime.replyOf (answerOf (runOf table stimulus) (length buffer))) room
 
 abbrev pub runJournal : List ℕ → List ℕ → List ℕ → ℕ → List ℕ
-runJournal table stimulus buffer room = bufferAfter (runTold table stimulus buffer room) (bufferOf (runOf table stimulus) buffer) buffer
+runJournal table stimulus buffer room = bufferAfter (runTold table stimulus buffer room) (bufferIn (runOf table stimulus) buffer) buffer
 
 abbrev pub reactionTold : List ℕ → ℕ → ℕ → ℕ → Reply
 reactionTold table P A room = told (reaction.replyOf (reactOf table P A)) room

@@ -27,7 +27,7 @@ use Rattle.table.proofs.WellFormed.{well-formed-by, well-formed}
 use Rattle.table.proofs.Words.{length-words}
 use Rattle.convert.specs.declared.Answer.the-variants.{Converted, TableRefused, BufferTooShort}
 use Rattle.convert.specs.Convert.{newSet, change, withSets, emptied, total, byState, newBytes, changes, madeOf}
-use Rattle.convert.proofs.Converting.{new-length}
+use Rattle.convert.proofs.Converting.{is-made, new-length}
 use Rattle.records.specs.Form as form
 use Rattle.journal.specs.Check as journal
 use Rattle.journal.specs.Check.{checkOf}
@@ -178,10 +178,6 @@ new-encodes s passes is = let same = is-table s passes in rw same (table-encodes
 
 -- ---- What the entry does with it
 
-made-of : (s : List ℕ) → oldAnswer s ≡ Passes → madeOf s ≡ made (Converted (changes (countsIn s) s)) (newBytes (countsIn s) s)
-unfolding madeOf
-made-of s passes = rw passes refl
-
 -- A success comes only so.
 succeeded : (s buffer : List ℕ) (n : ℕ) → answerFor s buffer ≡ Converted n → (oldAnswer s ≡ Passes) × (length s ≤ length buffer)
 unfolding madeOf answerIn
@@ -202,12 +198,12 @@ module _ (s buffer : List ℕ) (passes : oldAnswer s ≡ Passes) (room : length 
 
   answers : answerFor s buffer ≡ Converted (changes (countsIn s) s)
   unfolding answerIn
-  answers = rw (made-of s passes, enough) refl
+  answers = rw (is-made s passes, enough) refl
 
   writes-new : newTable s buffer ≡ newBytes (countsIn s) s
   unfolding bufferIn
   writes-new =
-      rw (made-of s passes, enough)
+      rw (is-made s passes, enough)
       (take-at (newBytes (countsIn s) s) (drop (length (newBytes (countsIn s) s)) buffer) (length s) (new-length s buffer passes))
 
 no-timers-emptied : (t : Table) → emptied t .timers ≡ t .timers

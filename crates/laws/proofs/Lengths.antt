@@ -5,13 +5,14 @@ use Prim.Native.Nat.{ℕ}
 use native.Mathlib.Omega.{arith}
 use lib.ListN.{length, length-append, length-map}
 use Rattle.wire.specs.Encode.{field}
+use Rattle.wire.specs.Made.{refused}
 use Rattle.wire.proofs.Apart.{apart}
 use Rattle.table.specs.Check.{tableIn}
 use Rattle.table.proofs.Under.{under-either}
 use Rattle.records.specs.declared.Record.the-variants.{End}
 use Rattle.records.specs.Form as form
 use Rattle.runtime.specs.declared.Answer.the-variants.{TableRefused}
-use Rattle.runtime.specs.Run.{journal, refused, madeUnder, runOf}
+use Rattle.runtime.specs.Run.{journal, madeUnder, runOf}
 use Rattle.runtime.proofs.Lengths.{ran-lengths, journal-short}
 use Rattle.laws.specs.Runtimes.{eventFor, EightForAnEvent, NeverTooLong}
 use Rattle.laws.proofs.Walks.{over-written}

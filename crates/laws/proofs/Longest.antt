@@ -7,6 +7,7 @@ use native.Mathlib.Omega.{arith}
 use borrow.Author.Tests.{lt-ltb, le-leb}
 use lib.ListN.{length}
 use Rattle.wire.specs.Encode.{Bytes, bytes32, field}
+use Rattle.wire.specs.Made.{refused}
 use Rattle.table.specs.declared.Table.{Table}
 use Rattle.table.specs.declared.Answer.the-variants.{Passes}
 use Rattle.table.specs.Check.{tableAnswer, tableIn}
@@ -24,7 +25,7 @@ use Rattle.machine.specs.Run.{Runs}
 use Rattle.machine.specs.Walk.{inTable, filled}
 use Rattle.machine.proofs.Steps.{taken-step, verdict-small}
 use Rattle.runtime.specs.declared.Answer.the-variants.{TableRefused}
-use Rattle.runtime.specs.Run.{journal, refused, madeOf, madeUnder, runOf}
+use Rattle.runtime.specs.Run.{journal, madeOf, madeUnder, runOf}
 use Rattle.laws.specs.Walks.{RunsOver}
 use Rattle.laws.specs.Runtimes.{StimulusOf, eventFor, LongestIsMade}
 use Rattle.laws.proofs.Walks.{runs-over}

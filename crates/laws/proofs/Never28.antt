@@ -1,14 +1,15 @@
 -- The runtime never gives 28: what it turns down is the reader's, or a record that the machine itself completed.
 use mathlib.Core.Path.{_≡_, refl}
-use mathlib.Core.List.{List, [], _∷_, _++_}
+use mathlib.Core.List.{List}
 use mathlib.Core.Bool.{Bool, true, false, not}
 use Prim.Native.Nat.{ℕ, suc, _+_, _*_, _≤_}
 use native.Mathlib.Omega.{arith}
 use borrow.Author.Tests.{eq-eqb}
 use lib.ListN.{length}
 use Rattle.wire.specs.Choice.{_<?_, if_then_else_}
-use Rattle.wire.specs.Encode.{field}
+use Rattle.wire.specs.Made as Made
 use Rattle.wire.proofs.Apart.{apart}
+use Rattle.wire.proofs.Made.{answerMade, answer-either}
 use Rattle.table.specs.declared.Table.{Table}
 use Rattle.table.specs.Check.{tableIn}
 use Rattle.table.proofs.Under.{under-either}
@@ -19,8 +20,7 @@ use Rattle.records.specs.declared.Opening.{Opening}
 use Rattle.records.specs.declared.Opening.the-variants as opening
 use Rattle.records.specs.Record.{timeOf}
 use Rattle.records.specs.Refusal.{numberOf}
-use Rattle.records.specs.Form.{journal, stimulus}
-use Rattle.records.specs.Encode.{bytesFrom}
+use Rattle.records.specs.Form.{stimulus}
 use Rattle.records.specs.Reading.{Items, item, done, broken, openingOf, itemsOf}
 use Rattle.records.proofs.Places.{OpensWell, opens-well, Within, items-within}
 use Rattle.machine.specs.declared.Machine.{Machine}
@@ -29,9 +29,9 @@ use Rattle.machine.specs.declared.Step.{Step}
 use Rattle.machine.specs.declared.Step.the-variants as step
 use Rattle.machine.specs.Machine.{kindOf, allowed, settled, verdict, stateAfter, agrees, after, gate, through, step, start}
 use Rattle.machine.specs.Walk.{inTable, filled, Walk, ended, stopped, took, onwards, walk, Run, ran, tooLong, refused, ranFrom, recordsRun, opened, runOver}
-use Rattle.runtime.specs.declared.Answer.the-variants.{Written, TableRefused, Refused, BufferTooShort}
-use Rattle.runtime.specs.Run as runtime
-use Rattle.runtime.specs.Run.{Made, madeOf, runOf, answerOf}
+use Rattle.runtime.specs.declared.Answer.{Answer}
+use Rattle.runtime.specs.declared.Answer.the-variants.{TableRefused, Refused, BufferTooShort}
+use Rattle.runtime.specs.Run.{madeOf, runOf}
 use Rattle.laws.specs.Runtimes.{NeverDiffers}
 
 -- ---- The machine, on a record that agrees with it
@@ -108,23 +108,20 @@ run-fine t s = go (stimulus .most <? length s)
     go true = tt
     go false = begun (openingOf stimulus (t .inputs) s) (opens-well 0x20 4 4 (t .inputs) s)
 
-module _ (room place : ℕ) where
-  abbrev Never : Made → Type 0
-  Never made = answerOf made room ≡ Refused Differs place → ⊥
+-- ---- The answer
 
-  made-never : (r : Run) → FineRun r → Never (madeOf r)
-  unfolding madeOf answerOf
-  made-never (ran input taken last) h e = let size = length (field 0x10 (input ∷ []) ++ bytesFrom journal 0 taken) in go size (room <? size) e
-    where
-      go : (size : ℕ) (short : Bool) → (if short then BufferTooShort else Written size) ≡ Refused Differs place → ⊥
-      go size true f = apart cc
-      go size false f = apart cc
-  made-never tooLong h e = apart cc
-  made-never (refused refusal p) h e = let same : refusal ≡ Differs = cc in let low : 28 ≤ 27 = rw same at h in omega arith
+abbrev Never : ℕ → Answer → Type 0
+Never place a = a ≡ Refused Differs place → ⊥
+
+made-never : (place : ℕ) (r : Run) → FineRun r → Never place (answerMade (madeOf r))
+unfolding madeOf
+made-never place (ran input taken last) h e = apart cc
+made-never place tooLong h e = apart cc
+made-never place (refused refusal p) h e = let same : refusal ≡ Differs = cc in let low : 28 ≤ 27 = rw same at h in omega arith
 
 pub never-differs : NeverDiffers
-unfolding runOf answerOf
+unfolding runOf
 never-differs table s room place =
-    under-either (λ a. runtime.refused (TableRefused a)) (λ t. madeOf (runOver stimulus t s)) table (Never room place)
-    (λ passed. made-never room place (runOver stimulus (tableIn table) s) (run-fine (tableIn table) s))
-    (λ e. apart cc)
+    answer-either (Never place) BufferTooShort (λ e. apart cc) (runOf table s)
+    (under-either (λ a. Made.refused (TableRefused a)) (λ t. madeOf (runOver stimulus t s)) table (λ m. Never place (answerMade m))
+    (λ passed. made-never place (runOver stimulus (tableIn table) s) (run-fine (tableIn table) s)) (λ e. apart cc)) room

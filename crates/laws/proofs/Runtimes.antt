@@ -9,6 +9,8 @@ use lib.ListN.{length, take, drop}
 use lib.Seq.{take-append-seam}
 use Rattle.wire.specs.Choice.{_<?_, _≤?_, _and_, if_then_else_}
 use Rattle.wire.specs.Encode.{Bytes, field}
+use Rattle.wire.specs.Made as Made
+use Rattle.wire.specs.Made.{refused, bufferIn}
 use Rattle.wire.proofs.Apart.{apart}
 use Rattle.wire.proofs.Choice.{both}
 use Rattle.table.specs.declared.Table.{Table}
@@ -37,7 +39,7 @@ use Rattle.journal.specs.Check.{answerIn}
 use Rattle.journal.specs.declared.Numbers.{Numbers}
 use Rattle.journal.specs.declared.Answer.the-variants as answer
 use Rattle.runtime.specs.declared.Answer.the-variants.{Written, TableRefused, BufferTooShort}
-use Rattle.runtime.specs.Run.{Made, journal, refused, madeOf, madeUnder, runOf, answerOf, bufferOf}
+use Rattle.runtime.specs.Run.{journal, madeOf, madeUnder, runOf, answerOf}
 use Rattle.runtime.proofs.Lengths.{under-short}
 use Rattle.laws.specs.Walks.{RunsOver}
 use Rattle.laws.specs.Journals.{AcceptedRun, JournalOf}
@@ -272,19 +274,9 @@ writes-the-only t s j e j′ a =
 
 -- ---- Success
 
--- No refusal has the answer of success.
-never-refused : (t : Table) (s : List ℕ) (size : ℕ) → madeUnder t s ≡ refused (Written size) → ⊥
-unfolding madeOf
-never-refused t s size e = go (runOver form.stimulus t s) e
-  where
-    go : (r : Run) → madeOf r ≡ refused (Written size) → ⊥
-    go (ran input taken last) f = apart cc
-    go tooLong f = apart cc
-    go (walk.refused refusal place) f = apart cc
-
 -- A journal that has room.
 fitting : (j : List ℕ) (room size : ℕ) → answerOf (journal j) room ≡ Written size → (length j ≡ size) × (size ≤ room)
-unfolding answerOf
+unfolding Made.answerIn
 fitting j room size e = go (room <? length j) refl e
   where
     go : (short : Bool) → (room <? length j) ≡ short → (if short then BufferTooShort else Written (length j)) ≡ Written size → (length j ≡ size) × (size ≤ room)
@@ -311,24 +303,25 @@ module _ (t : Table) (good : WellFormed t) (s : List ℕ) (bytes : Bytes s) wher
       }
 
   succeeded : (room size : ℕ) → answerOf (madeUnder t s) room ≡ Written size → laws.Writable t s room size
-  unfolding answerOf
-  succeeded room size e = go (madeUnder t s) refl e
+  unfolding madeOf Made.answerIn
+  succeeded room size e = go (runOver form.stimulus t s) refl e
     where
-      go : (r : Made) → madeUnder t s ≡ r → answerOf r room ≡ Written size → laws.Writable t s room size
-      go (refused answer) is f = absurd (never-refused t s size (is ∙ ap refused f))
-      go (journal j) is f =
+      go : (r : Run) → runOver form.stimulus t s ≡ r → answerOf (madeOf r) room ≡ Written size → laws.Writable t s room size
+      go (ran input taken last) is f =
+          let j = field 0x10 (input ∷ []) ++ bytesFrom form.journal 0 taken in
           let p = fitting j room size f in
-          let w = wrote t s j is in
           record {
             journal = j;
-            accepted = accepted-for j is;
+            accepted = accepted-for j (ap madeOf is);
             size-is = p .0;
             fits = p .1;
-            short = went-through form.stimulus t s (w .input) (w .taken) (w .last) (w .through) .short;
+            short = went-through form.stimulus t s input taken last is .short;
           }
+      go tooLong is f = apart cc
+      go (walk.refused refusal place) is f = apart cc
 
   succeeds : (room size : ℕ) → laws.Writable t s room size → answerOf (madeUnder t s) room ≡ Written size
-  unfolding answerOf
+  unfolding Made.answerIn
   succeeds room size w = rw (writes t s (w .journal) (w .short) (w .accepted), w .size-is, le-ltb room size (w .fits)) refl
 
 pub succeeds-exactly : SucceedsExactly
@@ -344,7 +337,7 @@ module _ (table s : List ℕ) where
       sym (under-passes (λ a. refused (TableRefused a)) (λ x. madeUnder x s) table (h .0) ∙ ap (λ x. madeUnder x s) (h .1))
 
   table-passes : (room size : ℕ) → answerOf (runOf table s) room ≡ Written size → tableAnswer table ≡ Passes
-  unfolding runOf answerOf
+  unfolding runOf Made.answerIn
   table-passes room size =
       under-either (λ a. refused (TableRefused a)) (λ x. madeUnder x s) table (λ m. answerOf m room ≡ Written size → tableAnswer table ≡ Passes)
       (λ e f. e) (λ f. apart cc)
@@ -361,8 +354,8 @@ runs-exactly table s table-bytes bytes room size = (
 )
 
 -- A journal that fits stands at the start of the buffer.
-in-front : (j before : List ℕ) (size : ℕ) → length j ≡ size → size ≤ length before → take size (bufferOf (journal j) before) ≡ j
-unfolding bufferOf answerOf
+in-front : (j before : List ℕ) (size : ℕ) → length j ≡ size → size ≤ length before → take size (bufferIn (journal j) before) ≡ j
+unfolding bufferIn
 in-front j before size is fits =
     let has-room = le-ltb (length before) (length j) (omega arith) in
     rw (← is) (simp has-room (take-append-seam j (drop (length j) before)))
@@ -373,7 +366,7 @@ writes-the-journal table s before table-bytes bytes size e =
     let w = p .3 in
     let made = writes (p .0) s (w .journal) (w .short) (w .accepted) in
     let same = sym (runs-under table s (p .0) (p .1) (p .2)) ∙ made in
-    let front = ap (λ r. take size (bufferOf r before)) same ∙ in-front (w .journal) before size (w .size-is) (w .fits) in
+    let front = ap (λ r. take size (bufferIn r before)) same ∙ in-front (w .journal) before size (w .size-is) (w .fits) in
     rw front (only-journal table s bytes (p .0) (p .1) (p .2) (w .journal) made)
   where
     only-journal : (table′ s′ : List ℕ) → Bytes s′ → (t : Table) → WellFormed t → table′ ≡ tables.encode t → (j : List ℕ) → madeUnder t s′ ≡ journal j →

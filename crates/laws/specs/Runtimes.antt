@@ -5,6 +5,7 @@ use mathlib.Core.Logic.{_↔_}
 use Prim.Native.Nat.{ℕ, _+_, _*_, _≤_}
 use lib.ListN.{length, take}
 use Rattle.wire.specs.Encode.{Bytes}
+use Rattle.wire.specs.Made.{bufferIn}
 use Rattle.table.specs.declared.Table.{Table}
 use Rattle.table.specs.Table.{WellFormed}
 use Rattle.table.specs.declared.Answer.the-variants.{Passes}
@@ -19,7 +20,7 @@ use Rattle.records.specs.Form as form
 use Rattle.records.specs.Form.{longestStimulus}
 use Rattle.records.specs.Encode.{encode, kept, WrittenAs}
 use Rattle.runtime.specs.declared.Answer.the-variants.{Written, Refused}
-use Rattle.runtime.specs.Run.{journal, madeUnder, runOf, answerOf, bufferOf}
+use Rattle.runtime.specs.Run.{journal, madeUnder, runOf, answerOf}
 use Rattle.machine.specs.Run.{ticksOf}
 use Rattle.machine.specs.Walk.{inTable}
 use Rattle.laws.specs.Journals.{JournalOf}
@@ -105,7 +106,7 @@ pub record OnlyJournal (table s j : List ℕ) : Type 0 where
 -- On success just that stands at the start of the buffer.
 abbrev pub WritesTheJournal : Type 0
 WritesTheJournal = (table s before : List ℕ) → Bytes table → Bytes s → (size : ℕ) → answerOf (runOf table s) (length before) ≡ Written size →
-    OnlyJournal table s (take size (bufferOf (runOf table s) before))
+    OnlyJournal table s (take size (bufferIn (runOf table s) before))
 
 -- It never gives 28.
 abbrev pub NeverDiffers : Type 0

@@ -4,3 +4,4 @@ pub mod Laws
 pub mod Bytes
 pub mod Placed
 pub mod Standing
+pub mod Made
