@@ -1,4 +1,2 @@
 pub mod Lengths
-pub mod Buffers
 pub mod Producing
-pub mod Answering
