@@ -1,6 +1,6 @@
-/* Holds the library against the reference: seeded random tables, stimuli, journals and sets, sound and damaged. For
- * each case both are called with their own copies of the same bytes, and the value returned and every byte of every
- * buffer are compared, guard bytes included.
+/* Holds the library against the reference: seeded random tables, stimuli, journals, stamped journals and sets, sound and
+ * damaged. For each case both are called with their own copies of the same bytes, and the value returned and every byte
+ * of every buffer are compared, guard bytes included.
  *
  *     differential [CASES [SEED]]
  *
@@ -16,11 +16,13 @@ uint64_t second_check_journal(const uint8_t *, size_t, const uint8_t *, size_t, 
 uint64_t second_run(const uint8_t *, size_t, const uint8_t *, size_t, uint8_t *, size_t, uint8_t *, size_t);
 uint64_t second_reaction(const uint8_t *, size_t, uint32_t, uint32_t, uint8_t *, size_t);
 uint64_t second_convert_table(const uint8_t *, size_t, uint8_t *, size_t, uint8_t *, size_t);
+uint64_t second_read_stamped(const uint8_t *, size_t, uint8_t *, size_t, uint8_t *, size_t);
 #define krossvil_check_table second_check_table
 #define krossvil_check_journal second_check_journal
 #define krossvil_run second_run
 #define krossvil_reaction second_reaction
 #define krossvil_convert_table second_convert_table
+#define krossvil_read_stamped second_read_stamped
 #else
 #include "krossvil.h"
 #endif
@@ -31,7 +33,14 @@ uint64_t second_convert_table(const uint8_t *, size_t, uint8_t *, size_t, uint8_
 #include <stdlib.h>
 #include <string.h>
 
-enum { JOURNAL_LIMIT = 65536, STIMULUS_LIMIT = 57344, ROOM = 2 * 65536, MOST_PIECES = 10000 };
+enum {
+    JOURNAL_LIMIT = 65536,
+    STIMULUS_LIMIT = 57344,
+    STAMPED_LIMIT = 49152,
+    MOST_STAMPED = 8190, /* records between opening and end of a stamped journal */
+    ROOM = 2 * 65536,
+    MOST_PIECES = 10000
+};
 
 /* ---- chance ---- */
 
@@ -85,10 +94,16 @@ static void add(struct bytes *bytes, unsigned byte)
         bytes->at[bytes->len++] = (uint8_t)byte;
 }
 
+/* The lowest so many bytes of a number, up to four. */
+static void add_number(struct bytes *bytes, uint32_t number, unsigned count)
+{
+    while (count-- > 0)
+        add(bytes, number >> 8 * count & 0xFF);
+}
+
 static void add4(struct bytes *bytes, uint32_t number)
 {
-    for (int shift = 24; shift >= 0; shift -= 8)
-        add(bytes, number >> shift & 0xFF);
+    add_number(bytes, number, 4);
 }
 
 static void head(struct bytes *bytes, unsigned tag, size_t length)
@@ -428,7 +443,11 @@ static void draw_table(struct plan *plan, struct bytes *bytes, enum table_kind k
     }
 }
 
-/* ---- journals and stimuli ---- */
+/* ---- journals, stimuli and stamped journals ---- */
+
+enum form { JOURNAL, STIMULUS, STAMPED };
+
+static const size_t limits[] = { JOURNAL_LIMIT, STIMULUS_LIMIT, STAMPED_LIMIT };
 
 enum kind { OPENING, CHANGE, POLL, TEST, TICK, END };
 
@@ -443,18 +462,19 @@ static struct piece pieces[MOST_PIECES];
 static size_t piece_count;
 static size_t piece_starts[MOST_PIECES];
 
-static void write_pieces(unsigned family, struct bytes *bytes)
+/* A stamp is what two bytes have of a time. */
+static void write_pieces(enum form form, struct bytes *bytes)
 {
     static const unsigned tags[] = { 0x0, 0x1, 0x2, 0x3, 0x4, 0xF };
+    unsigned family = form == STIMULUS ? 0x20 : 0x10;
     bytes->len = 0;
     for (size_t k = 0; k < piece_count; k++) {
         const struct piece *piece = &pieces[k];
-        bool timed = piece->kind != OPENING;
-        bool valued = piece->kind <= CHANGE || (piece->kind != END && family == 0x10);
+        unsigned time_size = piece->kind == OPENING ? 0 : form == STAMPED ? 2 : 4;
+        bool valued = piece->kind <= CHANGE || (piece->kind != END && form != STIMULUS);
         piece_starts[k] = bytes->len;
-        head(bytes, family | tags[piece->kind], (timed ? 4u : 0u) + (valued ? 1u : 0u));
-        if (timed)
-            add4(bytes, piece->time);
+        head(bytes, family | tags[piece->kind], time_size + (valued ? 1u : 0u));
+        add_number(bytes, piece->time, time_size);
         if (valued)
             add(bytes, piece->value);
     }
@@ -583,6 +603,35 @@ static void draw_stimulus(const struct plan *plan, unsigned cycles, size_t limit
     };
 }
 
+/* How long until the next record of a stamped journal: likely 0, 1, a turn of the counter less one, about half a turn,
+ * or until the counter is at 65,535 or at 0. */
+static uint32_t draw_gap(uint32_t now)
+{
+    uint32_t to_last = 65535 - (now & 0xFFFF);
+    switch (below(8)) {
+    case 0: return 0;
+    case 1: return 1;
+    case 2: return 65535;
+    case 3: return 32767 + below(3);
+    case 4: return to_last;
+    case 5: return to_last < 65535 ? to_last + 1 : 0;
+    default: return below(65536);
+    }
+}
+
+/* A stamped journal of so many records between opening and end, of any kinds and values: no machine need have done it. */
+static void draw_stamped(size_t count)
+{
+    uint32_t now = 0, values = percent(50) ? 256 : 2;
+    pieces[0] = (struct piece){ .kind = OPENING, .value = below(values) };
+    for (size_t k = 1; k <= count + 1; k++) {
+        now += draw_gap(now);
+        pieces[k] = (struct piece){ .kind = (enum kind)between(CHANGE, TICK), .time = now, .value = below(values) };
+    }
+    pieces[count + 1].kind = END;
+    piece_count = count + 2;
+}
+
 static void damage_time(struct piece *piece, uint32_t before)
 {
     switch (below(12)) {
@@ -685,17 +734,25 @@ static void damage_pieces(const struct plan *plan)
 
 /* ---- one case ---- */
 
-enum entry { CHECK_TABLE, CHECK_JOURNAL, RUN, REACTION, CONVERT_TABLE, ENTRIES };
+enum entry { CHECK_TABLE, CHECK_JOURNAL, RUN, REACTION, CONVERT_TABLE, READ_STAMPED, ENTRIES };
 
-static const char *const entry_names[ENTRIES] = { "check_table", "check_journal", "run", "reaction", "convert_table" };
-static const size_t answer_sizes[ENTRIES] = { 0, 28, 4, 8, 4 };
+static const char *const entry_names[ENTRIES] = { "check_table", "check_journal", "run",
+                                                  "reaction",    "convert_table", "read_stamped" };
+static const char *const input_names[ENTRIES] = { NULL, "journal", "stimulus", NULL, NULL, "stamped journal" };
+static const size_t answer_sizes[ENTRIES] = { 0, 28, 4, 8, 4, 4 };
 
 struct call {
     enum entry entry;
-    const struct bytes *table, *input; /* input: journal or stimulus */
+    const struct bytes *table, *input; /* input: journal, stimulus or stamped journal */
     uint32_t states, inputs;
     size_t output_len, answer_len; /* output: journal or new table */
+    const struct bytes *right;     /* the output that a success must have, where that is known beforehand, or NULL */
 };
+
+static bool has_output(enum entry entry)
+{
+    return entry == RUN || entry == CONVERT_TABLE || entry == READ_STAMPED;
+}
 
 enum { GUARD = 64 };
 
@@ -771,9 +828,13 @@ static void call_side(const struct call *call, bool library, struct side *side)
         side->returned = (library ? krossvil_reaction : reference_reaction)(table, table_len, call->states,
                                                                             call->inputs, answer, answer_len);
         break;
-    default:
+    case CONVERT_TABLE:
         side->returned = (library ? krossvil_convert_table : reference_convert_table)(table, table_len, output,
                                                                                       output_len, answer, answer_len);
+        break;
+    default:
+        side->returned = (library ? krossvil_read_stamped : reference_read_stamped)(input, input_len, output,
+                                                                                    output_len, answer, answer_len);
         break;
     }
     side->inputs_kept = (table_len == 0 || memcmp(table, call->table->at, table_len) == 0) &&
@@ -794,14 +855,15 @@ static size_t output_size(const struct call *call, const struct side *side)
     if (side->returned != 0)
         return 0;
     switch (call->entry) {
-    case RUN: return answer_number(&side->answer, 0);
+    case RUN:
+    case READ_STAMPED: return answer_number(&side->answer, 0);
     case CONVERT_TABLE: return call->table->len;
     default: return 0;
     }
 }
 
-/* What must hold of one side by itself: a refusal changes nothing, a success nothing past the answer and the output, and
- * a new table passes. */
+/* What must hold of one side by itself: a refusal changes nothing, a success nothing past the answer and the output, a
+ * new table passes, and the output is right where that is known. */
 static const char *broken(const struct call *call, const struct side *side)
 {
     bool success = side->returned == 0;
@@ -820,6 +882,9 @@ static const char *broken(const struct call *call, const struct side *side)
     if (success && call->entry == CONVERT_TABLE &&
         reference_check_table(side->output.at + side->output.before, written) != 0)
         return "the new table does not pass";
+    if (success && call->right != NULL &&
+        (written != call->right->len || memcmp(side->output.at + side->output.before, call->right->at, written) != 0))
+        return "the output is not the right one";
     return NULL;
 }
 
@@ -863,12 +928,13 @@ static void print_case(const char *label, const struct call *call, const char *r
     print_returned("library", library_side.returned);
     print_lent("answer", &reference_side.answer, &library_side.answer);
     print_lent("output", &reference_side.output, &library_side.output);
-    print_bytes("table", call->table->at, call->table->len);
-    if (call->entry == CHECK_JOURNAL || call->entry == RUN)
-        print_bytes(call->entry == RUN ? "stimulus" : "journal", call->input->at, call->input->len);
+    if (call->entry != READ_STAMPED)
+        print_bytes("table", call->table->at, call->table->len);
+    if (input_names[call->entry] != NULL)
+        print_bytes(input_names[call->entry], call->input->at, call->input->len);
     if (call->entry == REACTION)
         printf("  states %08" PRIX32 ", inputs %08" PRIX32 "\n", call->states, call->inputs);
-    if (call->entry == RUN || call->entry == CONVERT_TABLE) {
+    if (has_output(call->entry)) {
         printf("  output buffer of %zu bytes\n", call->output_len);
         if (reference_side.returned == 0)
             print_bytes("reference's output", reference_side.output.at + reference_side.output.before,
@@ -930,7 +996,7 @@ static void compare(const char *label, const struct call *call, const uint64_t *
 
 /* ---- random cases ---- */
 
-static struct bytes table, input, scratch;
+static struct bytes table, input, scratch, long_form;
 
 static uint32_t draw_states(const struct plan *plan, uint32_t inputs)
 {
@@ -976,12 +1042,11 @@ static void take_values(const struct bytes *sound_table)
     }
 }
 
-static void draw_input(const struct plan *plan, enum entry entry)
+/* The pieces of a run of the machine. */
+static void draw_run(const struct plan *plan, enum form form)
 {
     static struct bytes sound;
     size_t starts[6];
-    unsigned family = entry == RUN ? 0x20 : 0x10;
-    size_t limit = entry == RUN ? STIMULUS_LIMIT : JOURNAL_LIMIT;
 
     if (percent(3)) { /* as long as may be, or a little longer */
         size_t most = percent(60) ? STIMULUS_LIMIT - below(percent(50) ? 1 : 30) : STIMULUS_LIMIT + below(12);
@@ -990,24 +1055,39 @@ static void draw_input(const struct plan *plan, enum entry entry)
         unsigned cycles = percent(40) ? below(4) : percent(70) ? below(20) : below(120);
         draw_stimulus(plan, cycles, STIMULUS_LIMIT, percent(30) ? 0 : below(60));
     }
-    write_pieces(0x20, &input);
-    if (family == 0x10) {
+    if (form != STIMULUS) {
+        write_pieces(STIMULUS, &input);
         write_table(plan, plan->q, plan->i, &sound, starts);
         take_values(&sound);
     }
+}
+
+/* Draws into `input`, sound or damaged, and returns whether it is sound. What a sound stamped journal is read as goes into
+ * `long_form`. */
+static bool draw_input(const struct plan *plan, enum form form)
+{
+    size_t limit = limits[form];
+    if (form == STAMPED && percent(60))
+        draw_stamped(percent(4) ? MOST_STAMPED - 2 + below(5) : percent(60) ? below(6) : below(80));
+    else
+        draw_run(plan, form);
+    if (form == STAMPED)
+        write_pieces(JOURNAL, &long_form);
 
     unsigned damages = percent(30) ? 0 : percent(75) ? 1 : 2;
-    bool coarse = percent(40);
+    bool coarse = percent(form == STAMPED ? 70 : 40);
     for (unsigned k = 0; k < damages && !coarse; k++)
         damage_pieces(plan);
-    write_pieces(family, &input);
+    write_pieces(form, &input);
     for (unsigned k = 0; k < damages && coarse; k++)
         damage_bytes(&input, piece_starts, piece_count, limit);
-    if (input.len > 60000 && percent(30)) { /* around the longest journal */
+    if (form != STIMULUS && input.len > limit - 5536 && percent(30)) { /* around the longest journal */
         size_t wanted = limit - 2 + below(5);
         while (input.len < wanted)
             add(&input, below(256));
+        return false;
     }
+    return damages == 0;
 }
 
 static enum table_kind draw_kind(enum entry entry)
@@ -1015,11 +1095,34 @@ static enum table_kind draw_kind(enum entry entry)
     bool converts = entry == CONVERT_TABLE;
     if (percent(converts ? 10 : 33))
         return TIMERS;
-    return percent(converts ? 70 : 3) ? OLD_HOLDS : HOLDS;
+    return percent(converts ? 70 : entry == READ_STAMPED ? 0 : 3) ? OLD_HOLDS : HOLDS;
+}
+
+/* How long the output is by the reference; if it refuses, any number will do. */
+static size_t exact_output(enum entry entry)
+{
+    uint8_t length[4];
+    uint64_t refused;
+    if (entry == CONVERT_TABLE)
+        return table.len;
+    if (entry == RUN)
+        refused = reference_run(table.at, table.len, input.at, input.len, scratch.at, ROOM, length, 4);
+    else
+        refused = reference_read_stamped(input.at, input.len, scratch.at, ROOM, length, 4);
+    return refused != 0 ? below(300) : (size_t)length[1] << 16 | (size_t)length[2] << 8 | length[3];
+}
+
+static uint64_t round_trips; /* accepted journals that came back from their stamps */
+
+static bool accepts_long_form(void)
+{
+    uint8_t answer[28];
+    return reference_check_journal(table.at, table.len, long_form.at, long_form.len, answer, sizeof answer) == 0;
 }
 
 static void random_case(uint64_t seed, uint64_t number)
 {
+    static const unsigned damaged_tables[ENTRIES] = { 65, 11, 11, 12, 40, 0 }; /* percent */
     static struct plan plan;
     struct call call = { .table = &table, .input = &input };
     uint32_t lot;
@@ -1028,16 +1131,20 @@ static void random_case(uint64_t seed, uint64_t number)
     seed_case(seed, number);
     snprintf(label, sizeof label, "case %" PRIu64 " of seed %" PRIu64, number, seed);
     lot = below(100);
-    call.entry = lot < 18   ? CHECK_TABLE
-                 : lot < 46 ? CHECK_JOURNAL
-                 : lot < 74 ? RUN
-                 : lot < 90 ? REACTION
-                            : CONVERT_TABLE;
-    draw_table(&plan, &table, draw_kind(call.entry),
-               percent(call.entry == CHECK_TABLE ? 65 : call.entry == CONVERT_TABLE ? 35 : 10));
+    call.entry = lot < 17   ? CHECK_TABLE
+                 : lot < 44 ? CHECK_JOURNAL
+                 : lot < 70 ? RUN
+                 : lot < 84 ? REACTION
+                 : lot < 92 ? CONVERT_TABLE
+                            : READ_STAMPED;
+    draw_table(&plan, &table, draw_kind(call.entry), percent(damaged_tables[call.entry]));
     input.len = 0;
-    if (call.entry == CHECK_JOURNAL || call.entry == RUN)
-        draw_input(&plan, call.entry);
+    if (call.entry == CHECK_JOURNAL)
+        draw_input(&plan, JOURNAL);
+    if (call.entry == RUN)
+        draw_input(&plan, STIMULUS);
+    if (call.entry == READ_STAMPED && draw_input(&plan, STAMPED))
+        call.right = &long_form;
     if (call.entry == REACTION) {
         call.inputs = percent(25) ? low_bits(plan.i) : draw_set(plan.i);
         call.states = draw_states(&plan, call.inputs);
@@ -1048,17 +1155,12 @@ static void random_case(uint64_t seed, uint64_t number)
         if (percent(4))
             call.states = (uint32_t)draw64();
     }
-    if (call.entry == RUN) {
-        uint8_t length[4];
-        size_t exact = below(300);
-        if (reference_run(table.at, table.len, input.at, input.len, scratch.at, ROOM, length, 4) == 0)
-            exact = (size_t)length[1] << 16 | (size_t)length[2] << 8 | length[3];
-        call.output_len = draw_output_len(exact);
-    }
-    if (call.entry == CONVERT_TABLE)
-        call.output_len = draw_output_len(table.len);
+    if (has_output(call.entry))
+        call.output_len = draw_output_len(exact_output(call.entry));
     call.answer_len = call.entry == CHECK_TABLE ? 0 : draw_answer_len(answer_sizes[call.entry]);
     compare(label, &call, NULL);
+    if (call.right != NULL && library_side.returned == 0 && accepts_long_form())
+        round_trips++;
 }
 
 /* ---- the paper's cases ---- */
@@ -1147,7 +1249,7 @@ static void journal_cases(const struct plan *plan)
         snprintf(label, sizeof label, "paper's journal %zu", k);
         read_pieces(journals[k].journal);
         call.entry = CHECK_JOURNAL;
-        write_pieces(0x10, &input);
+        write_pieces(JOURNAL, &input);
         compare(label, &call, journals[k].wanted);
         if (k == 0) {
             uint64_t length = input.len;
@@ -1155,7 +1257,7 @@ static void journal_cases(const struct plan *plan)
             memcpy(journal, &input, sizeof input);
             call.entry = RUN;
             call.output_len = 200;
-            write_pieces(0x20, &input);
+            write_pieces(STIMULUS, &input);
             compare("paper's stimulus", &call, (const uint64_t[]){ 0, length });
             bool same = table.len == 48 && length == 123 && input.len == 111 &&
                         memcmp(library_side.output.at + library_side.output.before, journal->at, length) == 0;
@@ -1257,21 +1359,142 @@ static void longest_case(void)
         for (enum kind kind = POLL; kind <= TICK; kind++)
             pieces[piece_count++] = (struct piece){ .kind = kind, .time = time };
     pieces[piece_count++] = (struct piece){ .kind = END, .time = 2730 };
-    write_pieces(0x20, &input);
+    write_pieces(STIMULUS, &input);
     expect(input.len == 57341, "the longest journal's stimulus has not 57,341 bytes");
     compare("longest journal", &call, (const uint64_t[]){ 0, 65531 });
     call.output_len = 65530;
     compare("longest journal, room for a byte less", &call, (const uint64_t[]){ REFUSED(30, 0) });
     pieces[piece_count - 1] = (struct piece){ .kind = POLL, .time = 2731 };
     pieces[piece_count++] = (struct piece){ .kind = END, .time = 2731 };
-    write_pieces(0x20, &input);
+    write_pieces(STIMULUS, &input);
     compare("an event more than the longest journal's", &call, (const uint64_t[]){ REFUSED(19, 0) });
+}
+
+/* The files of examples/short-clock: a stamped journal, what is read from it, and the classroom's table with a longer bound
+ * and hold. */
+static void short_clock_case(void)
+{
+    struct plan plan = classroom();
+    struct call call = { .table = &table, .input = &input, .output_len = 123, .answer_len = 28, .right = &long_form };
+    size_t starts[6];
+
+    plan.bound = 50000;
+    plan.hold[1] = 90000;
+    write_table(&plan, 2, 2, &table, starts);
+    read_pieces("I0 c20000,1 p30000,1 t30000,1 k40000,1 c65535,0 p65536,0 t65537,0 k90000,1 "
+                "p130000,0 t130000,0 k140000,1 p150000,0 t150000,1 k160000,0 e180000");
+    write_pieces(JOURNAL, &long_form);
+    write_pieces(STAMPED, &input);
+    call.entry = READ_STAMPED;
+    compare("short clock", &call, (const uint64_t[]){ 0, 123 });
+    call.output_len = 122;
+    compare("short clock, room for a byte less", &call, (const uint64_t[]){ REFUSED(30, 0) });
+    call.output_len = 123;
+    call.answer_len = 3;
+    compare("short clock, no room for the answer", &call, (const uint64_t[]){ REFUSED(30, 0) });
+
+    call = (struct call){ .entry = CHECK_JOURNAL, .table = &table, .input = &input, .answer_len = 28 };
+    compare("short clock, stamps for times", &call, (const uint64_t[]){ REFUSED(21, 4) });
+    call.input = &long_form;
+    compare("short clock, its times", &call, (const uint64_t[]){ 0, 180000, 4, 2, 0, 0, 64464, 50000 });
+}
+
+/* Stamped journals as a text has them; then one of 27 bytes, with fields at 0, 4, 10, 16 and 22, cut or with a byte
+ * changed. */
+static void stamped_cases(void)
+{
+    static const struct {
+        const char *journal;
+        uint64_t wanted[2];
+    } journals[] = {
+        { "", { REFUSED(20, 0) } },
+        { "I0", { REFUSED(20, 4) } },
+        { "I0 p1,0", { REFUSED(20, 10) } },
+        { "I0 e0", { 0, 11 } },
+        { "I0 e65535", { 0, 11 } },
+        { "I255 c65535,254 p65536,253 t65536,7 k131071,252 e131072", { 0, 43 } },
+        { "e0", { REFUSED(22, 0) } },
+        { "p1,0 I0 e1", { REFUSED(22, 0) } },
+        { "I0 I0 e1", { REFUSED(22, 4) } },
+        { "I0 p1,0 I0 e1", { REFUSED(22, 10) } },
+        { "I0 e1 e1", { REFUSED(22, 9) } },
+    };
+    static const struct {
+        size_t len, place;
+        uint8_t byte;
+        uint64_t wanted[2];
+    } changes[] = {
+        { 27, 0, 0x10, { 0, 35 } },           { 2, 0, 0x10, { REFUSED(20, 0) } },   { 3, 0, 0x20, { REFUSED(20, 0) } },
+        { 27, 0, 0x20, { REFUSED(21, 0) } },  { 27, 0, 0x12, { REFUSED(21, 0) } },  { 27, 2, 0, { REFUSED(21, 0) } },
+        { 9, 4, 0x22, { REFUSED(20, 4) } },   { 27, 5, 0x01, { REFUSED(20, 4) } },  { 27, 4, 0x22, { REFUSED(21, 4) } },
+        { 27, 4, 0x15, { REFUSED(21, 4) } },  { 27, 4, 0x10, { REFUSED(21, 4) } },  { 27, 4, 0x1F, { REFUSED(21, 4) } },
+        { 27, 6, 5, { REFUSED(21, 4) } },     { 27, 6, 2, { REFUSED(21, 4) } },     { 27, 15, 7, { 0, 35 } },
+        { 22, 0, 0x10, { REFUSED(20, 22) } }, { 26, 0, 0x10, { REFUSED(20, 22) } }, { 27, 22, 0x14, { REFUSED(21, 22) } },
+        { 27, 24, 1, { REFUSED(21, 22) } },   { 27, 24, 3, { REFUSED(20, 22) } },   { 28, 27, 0x1F, { REFUSED(22, 27) } },
+    };
+    struct call call = { .entry = READ_STAMPED, .table = &table, .input = &input, .output_len = 50, .answer_len = 4 };
+    char label[64];
+
+    table.len = 0;
+    call.right = &long_form;
+    for (size_t k = 0; k < sizeof journals / sizeof *journals; k++) {
+        snprintf(label, sizeof label, "stamped journal %zu", k);
+        read_pieces(journals[k].journal);
+        write_pieces(JOURNAL, &long_form);
+        write_pieces(STAMPED, &input);
+        compare(label, &call, journals[k].wanted);
+    }
+    call.right = NULL;
+    for (size_t k = 0; k < sizeof changes / sizeof *changes; k++) {
+        snprintf(label, sizeof label, "stamped journal, %zu bytes, byte %zu is %u", changes[k].len, changes[k].place,
+                 changes[k].byte);
+        read_pieces("I0 p1,0 t2,1 k3,0 e4");
+        write_pieces(STAMPED, &input);
+        input.len = changes[k].len;
+        input.at[changes[k].place] = changes[k].byte;
+        compare(label, &call, changes[k].wanted);
+    }
+}
+
+/* The longest stamped journal: 8,190 records are 9 + 6 x 8,190 bytes of it, and 11 + 8 x 8,190 of its long form. */
+static void longest_stamped_case(void)
+{
+    struct call call = { .entry = READ_STAMPED, .table = &table, .input = &input, .answer_len = 4 };
+
+    table.len = 0;
+    for (uint32_t k = 0; k <= MOST_STAMPED + 1; k++)
+        pieces[k] = (struct piece){ .kind = POLL, .time = k * 65535 };
+    pieces[0].kind = OPENING;
+    pieces[MOST_STAMPED + 1].kind = END;
+    piece_count = MOST_STAMPED + 2;
+    write_pieces(JOURNAL, &long_form);
+    write_pieces(STAMPED, &input);
+    expect(input.len == 49149, "the longest stamped journal has not 49,149 bytes");
+    call.right = &long_form;
+    call.output_len = 65531;
+    compare("longest stamped journal", &call, (const uint64_t[]){ 0, 65531 });
+    call.output_len = 65530;
+    compare("longest stamped journal, room for a byte less", &call, (const uint64_t[]){ REFUSED(30, 0) });
+    head(&input, 0x12, 3);
+    compare("longest stamped journal, and three bytes", &call, (const uint64_t[]){ REFUSED(22, 49149) });
+    add(&input, 0);
+    compare("longest stamped journal, and four bytes", &call, (const uint64_t[]){ REFUSED(19, 0) });
+
+    insert_piece(1, pieces[1]);
+    write_pieces(STAMPED, &input);
+    compare("a record more than the longest stamped journal's", &call, (const uint64_t[]){ REFUSED(19, 0) });
+    input.len = 49153;
+    compare("the same, with three bytes of its end", &call, (const uint64_t[]){ REFUSED(19, 0) });
+    input.len = 49152;
+    compare("the same, with two bytes of its end", &call, (const uint64_t[]){ REFUSED(20, 49150) });
 }
 
 /* ---- the whole ---- */
 
 static bool can_give(enum entry entry, unsigned number)
 {
+    if (entry == READ_STAMPED)
+        return number == 0 || (number >= 19 && number <= 22) || number == 30;
     if (number <= 8)
         return true; /* success and the table's */
     if (number >= 11 && number <= 13)
@@ -1338,6 +1561,9 @@ int main(int argc, char **argv)
     old_table_case();
     timer_cases();
     longest_case();
+    short_clock_case();
+    stamped_cases();
+    longest_stamped_case();
     uint64_t asserted = passed, wrong = mismatches;
     for (uint64_t number = 0; number < cases; number++)
         random_case(seed, number);
@@ -1347,7 +1573,12 @@ int main(int argc, char **argv)
     else
         asserted++;
     uint64_t away = print_histogram(&asserted);
+    if (round_trips > 0)
+        asserted++;
+    else
+        away++;
     printf("random cases: %" PRIu64 "\n", cases);
+    printf("accepted journals, stamped and read back: %" PRIu64 "\n", round_trips);
     printf("mismatches: %" PRIu64 "\n", mismatches);
     printf("%" PRIu64 " passed, %" PRIu64 " failed\n", asserted, wrong + away);
     return mismatches + away == 0 ? 0 : 1;

@@ -1,6 +1,6 @@
-/* The entries, but for the converter, as an engineer would write them in C for use and not for proof: what host/bench
- * measures the library against. They answer as the functions of include/krossvil.h do, and host/bench tests that before it
- * measures. */
+/* The entries, but for the converter and the reader of stamped journals, as an engineer would write them in C for use and not
+ * for proof: what host/bench measures the library against. They answer as the functions of include/krossvil.h do, and
+ * host/bench tests that before it measures. */
 #ifndef PLAIN_H
 #define PLAIN_H
 

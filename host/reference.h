@@ -1,4 +1,4 @@
-/* A second implementation of the five entries in plain C, written from the rules alone. The library is
+/* A second implementation of the six entries in plain C, written from the rules alone. The library is
  * held against it. Each entry returns 0, or refusal number * 2^32 + place; on success the answer's numbers stand at
  * the start of `answer`, four bytes each, most significant byte first.
  *
@@ -7,6 +7,7 @@
  *   run            the journal's length
  *   reaction       reaction time, target
  *   convert_table  how many states have changed
+ *   read_stamped   the journal's length
  *
  * With SECOND defined the same entries get the prefix second_, so that two builds can be linked into one program. */
 #ifndef REFERENCE_H
@@ -21,6 +22,7 @@
 #define reference_run second_run
 #define reference_reaction second_reaction
 #define reference_convert_table second_convert_table
+#define reference_read_stamped second_read_stamped
 #endif
 
 uint64_t reference_check_table(const uint8_t *table, size_t table_len);
@@ -36,5 +38,8 @@ uint64_t reference_reaction(const uint8_t *table, size_t table_len, uint32_t sta
 
 uint64_t reference_convert_table(const uint8_t *table, size_t table_len, uint8_t *new_table, size_t new_table_len,
                                  uint8_t *answer, size_t answer_len);
+
+uint64_t reference_read_stamped(const uint8_t *stamped, size_t stamped_len, uint8_t *journal, size_t journal_len,
+                                uint8_t *answer, size_t answer_len);
 
 #endif

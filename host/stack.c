@@ -17,8 +17,8 @@ static const uint8_t timers[] = { UP_TO_FIELD_04, 7, 0, 32, TIMER, TIMER, TIMER,
 static const uint8_t *table;
 static size_t table_len;
 static uint8_t stimulus[KROSSVIL_STIMULUS_MAX], journal[KROSSVIL_JOURNAL_MAX], new_table[sizeof holds];
-static uint8_t answer[KROSSVIL_JOURNAL_ANSWER];
-static size_t stimulus_len, journal_len;
+static uint8_t stamped[KROSSVIL_STAMPED_MAX], answer[KROSSVIL_JOURNAL_ANSWER];
+static size_t stimulus_len, journal_len, stamped_len;
 static _Alignas(16) uint8_t stack[ROOM];
 static ucontext_t here, there;
 static uint64_t code;
@@ -37,6 +37,20 @@ static void make_stimulus(size_t size)
     }
     memcpy(b, (uint8_t[]){ 0x2F, 0, 4, 0, 0, (uint8_t)(time >> 8), (uint8_t)time }, 7);
     stimulus_len = (size_t)(b - stimulus) + 7;
+}
+
+/* The longest stamped journal: polls, each 65,535 after the one before; then the end. */
+static void make_stamped(void)
+{
+    uint16_t stamp = 0;
+    uint8_t *b = stamped;
+    memcpy(b, (uint8_t[]){ 0x10, 0, 1, 0 }, 4);
+    for (b += 4; (size_t)(b - stamped) + 11 <= sizeof stamped; b += 6) {
+        stamp--;
+        memcpy(b, (uint8_t[]){ 0x12, 0, 3, (uint8_t)(stamp >> 8), (uint8_t)stamp, 0 }, 6);
+    }
+    memcpy(b, (uint8_t[]){ 0x1F, 0, 2, (uint8_t)(stamp >> 8), (uint8_t)stamp }, 5);
+    stamped_len = (size_t)(b - stamped) + 5;
 }
 
 static void check_table(void)
@@ -62,6 +76,11 @@ static void reaction(void)
 static void convert_table(void)
 {
     code = krossvil_convert_table(table, table_len, new_table, sizeof new_table, answer, sizeof answer);
+}
+
+static void read_stamped(void)
+{
+    code = krossvil_read_stamped(stamped, stamped_len, journal, sizeof journal, answer, sizeof answer);
 }
 
 static void call_on_own_stack(void (*call)(void))
@@ -111,6 +130,8 @@ int main(void)
     passed += measure_on("holds", holds, sizeof holds);
     passed += measure("reaction", reaction, KROSSVIL_STACK);
     passed += measure("convert_table", convert_table, KROSSVIL_STACK);
-    printf("%d passed, %d failed\n", passed, 12 - passed);
-    return passed != 12;
+    make_stamped();
+    passed += measure("read_stamped", read_stamped, KROSSVIL_RUN_STACK);
+    printf("%d passed, %d failed\n", passed, 13 - passed);
+    return passed != 13;
 }

@@ -101,6 +101,17 @@ fresh
 cp "$root/examples/idle-sets/old-table.bin" table.bin
 prints 'an old table: state 0 has no hold and delays input 1' 'refused 11 at 40'
 
+# ---- A stamped journal, and what is read from it
+
+fresh
+cp "$root/examples/short-clock/table.bin" "$root/examples/short-clock/journal.bin" .
+prints 'the short clock' 'accepted end=180000 cycles=4 moves=2 state=0 output=0 left=64464 longest=50000'
+
+fresh
+cp "$root/examples/short-clock/table.bin" .
+cp "$root/examples/short-clock/stamped.bin" journal.bin
+prints 'the short clock with its stamps: a change has four bytes of time' 'refused 21 at 4'
+
 # ---- Tables with timers
 
 fresh

@@ -97,7 +97,7 @@ fi
 called=("$library")
 if [ "$self" = yes ]; then
     called=("$out/differential-second.o")
-    for entry in check_table check_journal run reaction convert_table; do
+    for entry in check_table check_journal run reaction convert_table read_stamped; do
         called+=("-Dkrossvil_$entry=second_$entry")
     done
 fi
@@ -117,24 +117,31 @@ hosts() { # FOLDER STATUS: on its table and stimulus the host prints its host.tx
 hosts examples/classroom 0
 hosts examples/gas-burner 1 # the calculator takes no timers
 
-echo "== the example converter"
-compile examples/convert.c "${called[@]}" "${link[@]}" -o "$out/convert" || stop "did not build"
-converts() { # TABLE LINE NEW: converted in its place, it gives the line and the bytes of NEW
+rewrites() { # PROGRAM FILE LINE NEW: run on the file in its place, it gives the line and the bytes of NEW
     local printed
-    cp "$1" "$out/table.bin"
-    printed=$("${run[@]}" "$out/convert" "$out/table.bin" "$out/table.bin")
-    if [ "$printed" = "$2" ] && cmp "$out/table.bin" "$3"; then
-        echo "$1: $printed"
+    cp "$2" "$out/file.bin"
+    printed=$("${run[@]}" "$out/$1" "$out/file.bin" "$out/file.bin")
+    if [ "$printed" = "$3" ] && cmp "$out/file.bin" "$4"; then
+        echo "$2: $printed"
         passed=$((passed + 1))
     else
-        echo "$1: '$printed', and not '$2' with the bytes of $3"
+        echo "$2: '$printed', and not '$3' with the bytes of $4"
         failed=$((failed + 1))
     fi
 }
-converts examples/idle-sets/old-table.bin 'changed=1' examples/idle-sets/table.bin
-converts examples/idle-sets/table.bin 'changed=0' examples/idle-sets/table.bin
-converts examples/classroom-timers/table.bin 'refused 2 at 26' examples/classroom-timers/table.bin
-converts examples/classroom/journal.bin 'refused 2 at 0' examples/classroom/journal.bin
+
+echo "== the example converter"
+compile examples/convert.c "${called[@]}" "${link[@]}" -o "$out/convert" || stop "did not build"
+rewrites convert examples/idle-sets/old-table.bin 'changed=1' examples/idle-sets/table.bin
+rewrites convert examples/idle-sets/table.bin 'changed=0' examples/idle-sets/table.bin
+rewrites convert examples/classroom-timers/table.bin 'refused 2 at 26' examples/classroom-timers/table.bin
+rewrites convert examples/classroom/journal.bin 'refused 2 at 0' examples/classroom/journal.bin
+
+echo "== the example reader of stamped journals"
+compile examples/unstamp.c "${called[@]}" "${link[@]}" -o "$out/unstamp" || stop "did not build"
+rewrites unstamp examples/short-clock/stamped.bin 'bytes=123' examples/short-clock/journal.bin
+rewrites unstamp examples/short-clock/journal.bin 'refused 21 at 4' examples/short-clock/journal.bin
+rewrites unstamp examples/classroom/stimulus.bin 'refused 21 at 0' examples/classroom/stimulus.bin
 
 if [ "$self" = no ]; then
     echo "== the stack that the functions need"

@@ -1,6 +1,6 @@
 /*
- * krossvil: a table check, a journal check, a runtime, a reaction calculator and a converter of old tables for polling controllers,
- * for a host program in C.
+ * krossvil: a table check, a journal check, a runtime, a reaction calculator, a converter of old tables and a reader of stamped
+ * journals for polling controllers, for a host program in C.
  *
  * Link with libkrossvil.a (x86-64). The functions keep no state, allocate nothing, call only memcpy and memset, and never stop the program:
  * each ends with an answer on any bytes. How much stack they need is below; that is measured, not proved.
@@ -44,6 +44,15 @@
  *
  *   Stimulus, at most 57,344 bytes: the same with tags 20 to 24 and 2F; fields 22, 23 and 24 have length 4, the time only.
  *
+ *   Stamped journal, at most 49,152 bytes: the journal of a controller whose clock is a counter of 16 bits, which wraps from
+ *   65,535 to 0. In the place of each time stand two bytes, the counter at that time: the stamp.
+ *     10  1    input at time 0
+ *     11  3    change: stamp, new input
+ *     12  3    poll: stamp, input polled
+ *     13  3    test: stamp, verdict
+ *     14  3    tick: stamp, state afterwards
+ *     1F  2    end: stamp
+ *
  * Refusals. A place is a byte offset, counted from 0, in the bytes that were turned down, save for 9, 10 and 14.
  *      1  table runs out before field 06, or 08, is complete      start of the field
  *      2  table field has the wrong tag or length                 start of the field
@@ -60,7 +69,7 @@
  *         an input at or above I                                  first such entry
  *     13  timer's length is 0 or too long                         first such entry
  *     14  calculator: the table has timers                        0
- *     19  journal or stimulus too long                            0
+ *     19  journal, stimulus or stamped journal too long           0
  *     20  bytes run out before the end field is complete          start of the field
  *     21  unknown tag, or wrong length for the tag                start of the field
  *     22  first field is not the opening one, a second opening,
@@ -72,16 +81,16 @@
  *     27  poll not later than last change, or than cycle start    start of the field
  *     28  polled input, verdict or state differs from the
  *         machine's                                               start of the field
- *     30  runtime: buffer shorter than the journal;
+ *     30  runtime, reader: buffer shorter than the journal;
  *         converter: buffer shorter than the table;
  *         any function with an answer: it is too short            0
  *
  * The table's refusals, 1 to 8 and 11 to 13, come before all others: field by field; in field 06 entry by entry, each for 7 and
  * then for 11; in field 07 timer by timer, each for 13 at its length and then for 12 at its region; 8 is the last of them. Then,
- * of a journal or a stimulus, 19, and field by field 20 to 28; of the calculator, 14, 9 for the states, 9 for the inputs, 10.
- * Then 30. The table check has no answer, and gives 1 to 8 and 11 to 13 only. The converter gives none of 11 to 14: it takes
- * tables with holds only, and field 07 is 2 to it. 29, a journal that would pass 65,536 bytes, is no longer given, since no run
- * makes one; the number is not used again.
+ * of a journal or a stimulus, 19, and field by field 20 to 28; of a stamped journal, which has no table, 19, and field by field 20
+ * to 22; of the calculator, 14, 9 for the states, 9 for the inputs, 10. Then 30. The table check has no answer, and gives 1 to 8
+ * and 11 to 13 only. The converter gives none of 11 to 14: it takes tables with holds only, and field 07 is 2 to it. 29, a journal
+ * that would pass 65,536 bytes, is no longer given, since no run makes one; the number is not used again.
  */
 #ifndef KROSSVIL_H
 #define KROSSVIL_H
@@ -95,14 +104,16 @@ extern "C" {
 
 #define KROSSVIL_JOURNAL_MAX 65536u /* a journal buffer of this size is never too short (proved: no run makes more than 65,531) */
 #define KROSSVIL_STIMULUS_MAX 57344u
+#define KROSSVIL_STAMPED_MAX 49152u /* what is read from so many bytes has at most 65,531 */
 
-#define KROSSVIL_RUN_STACK 80000u /* bytes of stack that are enough for krossvil_run */
+#define KROSSVIL_RUN_STACK 80000u /* bytes of stack that are enough for krossvil_run and krossvil_read_stamped */
 #define KROSSVIL_STACK 12000u     /* and for the other functions */
 
 #define KROSSVIL_JOURNAL_ANSWER 28u /* bytes of answer on success: T, ticks, moves, last state, its output, left, longest */
 #define KROSSVIL_RUN_ANSWER 4u      /* the journal's length in bytes */
 #define KROSSVIL_REACTION_ANSWER 8u /* reaction time, target set */
 #define KROSSVIL_CONVERT_ANSWER 4u  /* how many states have changed */
+#define KROSSVIL_STAMPED_ANSWER 4u  /* the journal's length in bytes */
 
 /* Does the table pass? There are no further numbers. */
 uint64_t krossvil_check_table(const uint8_t *table, size_t table_len);
@@ -130,6 +141,13 @@ uint64_t krossvil_reaction(const uint8_t *table, size_t table_len, uint32_t stat
  * and is now. */
 uint64_t krossvil_convert_table(const uint8_t *table, size_t table_len, uint8_t *new_table, size_t new_table_len,
                                 uint8_t *answer, size_t answer_len);
+
+/* Read a stamped journal and write its long form, the journal with its times, at the start of `journal`; the bytes past it are
+ * unchanged. The first time is the first stamp, and each later one the time before plus (stamp - stamp before) modulo 65,536. That
+ * is right where no record is 65,536 or more after the one before, as in every run of a machine. Inputs, verdicts and states are
+ * carried over as they stand; krossvil_check_journal says whether the journal is a run. Answer, 4 bytes: the journal's length. */
+uint64_t krossvil_read_stamped(const uint8_t *stamped, size_t stamped_len, uint8_t *journal, size_t journal_len,
+                               uint8_t *answer, size_t answer_len);
 
 static inline uint32_t krossvil_number(uint64_t code) { return (uint32_t)(code >> 32); }
 

@@ -20,15 +20,21 @@ use Rattle.convert.specs.declared.Answer as convert′
 use Rattle.convert.specs.declared.Answer.the-variants as done
 use Rattle.convert.specs.Answer as convert-answer
 use Rattle.convert.specs.Convert.{madeOf}
+use Rattle.stamped.specs.declared.Answer as stamped′
+use Rattle.stamped.specs.declared.Answer.the-variants as stamped
+use Rattle.stamped.specs.Answer as stamped-answer
+use Rattle.stamped.specs.Stamped.{readOf}
 use Rattle.krossvil.proofs.Writers.{Gives}
 use Rattle.krossvil.proofs.Runs.{run-gives}
 use Rattle.krossvil.proofs.Converts.{convert-gives}
+use Rattle.krossvil.proofs.Stamps.{stamped-gives}
 use Rattle.krossvil.specs.Host.{told, codeOf, numberBytes, answerAfter, journalTold, bufferAfter, reactionTold}
 use Rattle.laws.proofs.Never28.{never-differs}
 use Rattle.demands.proofs.Numbered.{table-numbered, refusal-numbered}
 use Rattle.demands.specs.Contracts.{EveryEntryDetermines, EveryRefusalKeeps, RunNeverDiffers}
 
 -- ---- Where the host is not told 0
+
 -- Where the host is not told 0, the answer buffer is as it was.
 answer-kept : (reply : Reply) (answer : List ℕ) → (codeOf reply ≡ 0 → ⊥) → answerAfter reply answer ≡ answer
 unfolding numberBytes
@@ -85,12 +91,18 @@ made-kept replyOf short k (Made′.made a bytes) (values, few, gave) buffer othe
     go true h = refl
     go false h = absurd (h (ap numberIn gave))
 
--- ---- The converter
+-- ---- The converter, and the reader of stamped journals
 
 convert-numbered : (a : convert′.Answer) → Numbered (convert-answer.replyOf a)
 convert-numbered (done.Converted changed) = tt
 convert-numbered (done.TableRefused answer) = table-fine answer
 convert-numbered done.BufferTooShort = refl
+
+stamped-numbered : (a : stamped′.Answer) → Numbered (stamped-answer.replyOf a)
+stamped-numbered (stamped.Written size) = tt
+stamped-numbered stamped.TooLong = refl
+stamped-numbered (stamped.Refused refusal place) = refusal-numbered refusal
+stamped-numbered stamped.BufferTooShort = refl
 
 -- ---- The entries
 
@@ -108,6 +120,7 @@ every-entry-determines = (
   record { asks-nothing = λ κs a. tt; one-outcome = λ κs a r r′ s s′ p p′. (p .0 ∙ sym (p′ .0), one (p .1 ∙ sym (p′ .1))) },
   record { asks-nothing = λ κs a. tt; one-outcome = λ κs a r r′ s s′ p p′. (p ∙ sym p′, refl) },
   record { asks-nothing = λ κs a. tt; one-outcome = λ κs a r r′ s s′ p p′. (p .0 ∙ sym (p′ .0), one (p .1 ∙ sym (p′ .1))) },
+  record { asks-nothing = λ κs a. tt; one-outcome = λ κs a r r′ s s′ p p′. (p .0 ∙ sym (p′ .0), one (p .1 ∙ sym (p′ .1))) },
   record { asks-nothing = λ κs a. tt; one-outcome = λ κs a r r′ s s′ p p′. (p ∙ sym p′, refl) },
   record { asks-nothing = λ κs a. tt; one-outcome = λ κs a r r′ s s′ p p′. (p .0 ∙ sym (p′ .0), one (p .1 ∙ sym (p′ .1))) },
   record {
@@ -115,6 +128,10 @@ every-entry-determines = (
     one-outcome = λ κs a r r′ s s′ p p′. (p .0 ∙ sym (p′ .0), two (p .1 .1 ∙ sym (p′ .1 .1)) (p .1 .0 ∙ sym (p′ .1 .0)));
   },
   record { asks-nothing = λ κs a. tt; one-outcome = λ κs a r r′ s s′ p p′. (p .0 ∙ sym (p′ .0), one (p .1 ∙ sym (p′ .1))) },
+  record {
+    asks-nothing = λ κs a. tt;
+    one-outcome = λ κs a r r′ s s′ p p′. (p .0 ∙ sym (p′ .0), two (p .1 .1 ∙ sym (p′ .1 .1)) (p .1 .0 ∙ sym (p′ .1 .0)));
+  },
   record {
     asks-nothing = λ κs a. tt;
     one-outcome = λ κs a r r′ s s′ p p′. (p .0 ∙ sym (p′ .0), two (p .1 .1 ∙ sym (p′ .1 .1)) (p .1 .0 ∙ sym (p′ .1 .0)));
@@ -129,6 +146,9 @@ every-refusal-keeps = (
   λ κs a r s p other.
       one (p .1 ∙ made-kept convert-answer.replyOf done.BufferTooShort 1 (madeOf (now (a .0))) (convert-gives (now (a .0))) (now (a .1 .0))
       (λ e. other (ap (λ x. numberIn (convert-answer.replyOf x)) (p .0) ∙ e))),
+  λ κs a r s p other.
+      one (p .1 ∙ made-kept stamped-answer.replyOf stamped.BufferTooShort 1 (readOf (now (a .0))) (stamped-gives (now (a .0))) (now (a .1 .0))
+      (λ e. other (ap (λ x. numberIn (stamped-answer.replyOf x)) (p .0) ∙ e))),
   λ κs a r s p other.
       let answer = now (a .1 .1 .0) in
       one (p .1 ∙ answer-kept (journalTold (now (a .0)) (now (a .1 .0)) (length answer)) answer (λ e. other (p .0 ∙ e))),
@@ -145,6 +165,11 @@ every-refusal-keeps = (
       let told-as = answerIn done.BufferTooShort (madeOf (now (a .0))) (length buffer) in
       both-kept (convert-answer.replyOf told-as) (convert-numbered told-as)
       (bufferIn (madeOf (now (a .0))) buffer) buffer (now (a .1 .1 .0)) _ (p .1 .1) _ (p .1 .0) (λ e. other (p .0 ∙ e)),
+  λ κs a r s p other.
+      let buffer = now (a .1 .0) in
+      let told-as = answerIn stamped.BufferTooShort (readOf (now (a .0))) (length buffer) in
+      both-kept (stamped-answer.replyOf told-as) (stamped-numbered told-as)
+      (bufferIn (readOf (now (a .0))) buffer) buffer (now (a .1 .1 .0)) _ (p .1 .1) _ (p .1 .0) (λ e. other (p .0 ∙ e)),
 )
 
 pub run-never-differs : RunNeverDiffers

@@ -22,6 +22,9 @@ use Rattle.reaction.proofs.react.Reads as react
 use Rattle.convert.specs.Answer as convert-answer
 use Rattle.convert.proofs.convert.Kinds as convert-kinds
 use Rattle.convert.proofs.convert.Reads as convert
+use Rattle.stamped.specs.Answer as stamped-answer
+use Rattle.stamped.proofs.read.Kinds as stamped-kinds
+use Rattle.stamped.proofs.read.Reads as stamped
 use Rattle.krossvil.proofs.krossvil_check_table.Kinds as c-table-kinds
 use Rattle.krossvil.proofs.krossvil_check_table.Reads as c-table
 use Rattle.krossvil.proofs.krossvil_check_journal.Kinds as c-journal-kinds
@@ -32,6 +35,8 @@ use Rattle.krossvil.proofs.krossvil_reaction.Kinds as c-reaction-kinds
 use Rattle.krossvil.proofs.krossvil_reaction.Reads as c-reaction
 use Rattle.krossvil.proofs.krossvil_convert_table.Kinds as c-convert-kinds
 use Rattle.krossvil.proofs.krossvil_convert_table.Reads as c-convert
+use Rattle.krossvil.proofs.krossvil_read_stamped.Kinds as c-stamped-kinds
+use Rattle.krossvil.proofs.krossvil_read_stamped.Reads as c-stamped
 
 -- A contract, and the bytes of the slices that are lent to be written, as they were and as they are left.
 pub record Contract : Type 1 where
@@ -72,6 +77,9 @@ reactionReact = entry 1 react-kinds.ps react-kinds.r react.Pre react.Post (λ κ
 abbrev pub converter : Contract
 converter = entry 2 convert-kinds.ps convert-kinds.r convert.Pre convert.Post (λ κs a. now (a .1 .0) ∷ []) (λ κs s. now (s .1 .0) ∷ [])
 
+abbrev pub stampedReader : Contract
+stampedReader = entry 2 stamped-kinds.ps stamped-kinds.r stamped.Pre stamped.Post (λ κs a. now (a .1 .0) ∷ []) (λ κs s. now (s .1 .0) ∷ [])
+
 abbrev pub tableInC : Contract
 tableInC = entry 1 c-table-kinds.ps c-table-kinds.r c-table.Pre c-table.Post (λ κs a. []) (λ κs s. [])
 
@@ -93,6 +101,11 @@ converterInC =
     entry 3 c-convert-kinds.ps c-convert-kinds.r c-convert.Pre c-convert.Post
     (λ κs a. now (a .1 .0) ∷ now (a .1 .1 .0) ∷ []) (λ κs s. now (s .1 .0) ∷ now (s .1 .1 .0) ∷ [])
 
+abbrev pub stampedInC : Contract
+stampedInC =
+    entry 3 c-stamped-kinds.ps c-stamped-kinds.r c-stamped.Pre c-stamped.Post
+    (λ κs a. now (a .1 .0) ∷ now (a .1 .1 .0) ∷ []) (λ κs s. now (s .1 .0) ∷ now (s .1 .1 .0) ∷ [])
+
 -- ---- Every answer is determined
 
 -- The contract asks nothing and allows one outcome: the result, and every lent byte.
@@ -104,7 +117,9 @@ pub record Determines (C : Contract) : Type 0 where
 abbrev pub EveryEntryDetermines : Type 0
 EveryEntryDetermines =
     Determines tableCheck × Determines journalCheck × Determines runtimeRun × Determines reactionReact × Determines converter
+    × Determines stampedReader
     × Determines tableInC × Determines journalInC × Determines runInC × Determines reactionInC × Determines converterInC
+    × Determines stampedInC
 
 -- ---- A refusal changes no lent byte
 
@@ -115,8 +130,9 @@ RefusalKeeps C number = (κs : Lfts (C .lifetimes)) (a : C .Args κs) (r : C .Re
 abbrev pub EveryRefusalKeeps : Type 0
 EveryRefusalKeeps =
     RefusalKeeps runtimeRun (λ κs r. numberIn (replyOf r)) × RefusalKeeps converter (λ κs r. numberIn (convert-answer.replyOf r))
+    × RefusalKeeps stampedReader (λ κs r. numberIn (stamped-answer.replyOf r))
     × RefusalKeeps journalInC (λ κs r. r) × RefusalKeeps runInC (λ κs r. r) × RefusalKeeps reactionInC (λ κs r. r)
-    × RefusalKeeps converterInC (λ κs r. r)
+    × RefusalKeeps converterInC (λ κs r. r) × RefusalKeeps stampedInC (λ κs r. r)
 
 -- ---- The runtime never gives 28
 

@@ -4,3 +4,4 @@ pub mod Outcomes
 pub mod Writers
 pub mod Runs
 pub mod Converts
+pub mod Stamps

@@ -6,10 +6,10 @@ use Prim.Native.Nat.{ℕ, suc, _*_, _^_, _≤_}
 use native.Mathlib.Nat.{mul-le-mul}
 use native.Mathlib.Omega.{arith}
 use borrow.Author.Tests.{ltb-false, ltb-true}
-use lib.ListN.{length, getD}
+use lib.ListN.{length}
 use Rattle.wire.specs.Choice.{_<?_, _=?_, if_then_else_}
 use Rattle.wire.specs.Made as Made
-use Rattle.wire.specs.Reply.{numberIn, placeIn, valuesIn}
+use Rattle.wire.specs.Reply.{Reply, numberIn, placeIn, valuesIn}
 use Rattle.wire.proofs.Made.{answerMade, answer-either}
 use Rattle.table.specs.declared.Table.{Table}
 use Rattle.table.specs.Table.{WellFormed}
@@ -42,10 +42,10 @@ use Rattle.runtime.proofs.Lengths.{Short, under-short}
 use Rattle.reaction.specs.declared.Answer.the-variants.{Reacts, TableRefused, HasTimers, UnknownState, UnknownInput, LeavesStates}
 use Rattle.reaction.specs.Answer as reaction
 use Rattle.reaction.specs.Reaction.{firstLeaving, reactionTime, nextSet, forHolds, reactionOf, reactOf}
-use Rattle.krossvil.specs.Small.{Fits}
+use Rattle.krossvil.specs.Small.{Fits, LengthFits}
 use Rattle.krossvil.proofs.TablePlaces.{table-none, table-fits}
 
-refusal-small : (x : Refusal) → numberOf x ≤ 30
+pub refusal-small : (x : Refusal) → numberOf x ≤ 30
 refusal-small RunsOut = omega arith
 refusal-small UnknownField = omega arith
 refusal-small Misplaced = omega arith
@@ -117,10 +117,10 @@ journal-fits table s =
 
 -- A journal's length fits too.
 abbrev RunFits : runtime′.Answer → Type 0
-RunFits a = Fits (runtime.replyOf a) × (getD (valuesIn (runtime.replyOf a)) 0 0 ≤ longestJournal)
+RunFits a = LengthFits (runtime.replyOf a)
 
-small : (a : runtime′.Answer) → numberIn (runtime.replyOf a) ≤ 30 → placeIn (runtime.replyOf a) ≤ 1000000 → valuesIn (runtime.replyOf a) ≡ [] → RunFits a
-small a n p none = (record { number = n; place = omega arith }, rw none (omega arith))
+pub small : (reply : Reply) → numberIn reply ≤ 30 → placeIn reply ≤ 1000000 → valuesIn reply ≡ [] → LengthFits reply
+small reply n p none = (record { number = n; place = omega arith }, rw none (omega arith))
 
 made-fits : (t : Table) (s : List ℕ) → RunFits (answerMade (madeUnder t s))
 unfolding madeOf
@@ -128,13 +128,13 @@ made-fits t s = go (runOver stimulus t s) (run-by stimulus (omega arith) t s) (u
   where
     go : (r : Run) → RunBy r → Short (madeOf r) → RunFits (answerMade (madeOf r))
     go (ran input taken last) h short = (record { number = omega arith; place = omega arith }, omega arith)
-    go tooLong h short = small made.TooLong (omega arith) (omega arith) refl
-    go (refused refusal place) h short = small (made.Refused refusal place) (refusal-small refusal) h refl
+    go tooLong h short = small (runtime.replyOf made.TooLong) (omega arith) (omega arith) refl
+    go (refused refusal place) h short = small (runtime.replyOf (made.Refused refusal place)) (refusal-small refusal) h refl
 
 pub run-fits : (table s : List ℕ) (room : ℕ) (a : runtime′.Answer) → a ≡ run.answerOf (runOf table s) room → RunFits a
 unfolding runOf
 run-fits table s room a is =
-    rw is (answer-either RunFits made.BufferTooShort (small made.BufferTooShort (omega arith) (omega arith) refl) (runOf table s)
+    rw is (answer-either RunFits made.BufferTooShort (small (runtime.replyOf made.BufferTooShort) (omega arith) (omega arith) refl) (runOf table s)
     (under-either (λ x. Made.refused (made.TableRefused x)) (λ t. madeUnder t s) table (λ m. RunFits (answerMade m)) (λ e. made-fits (tableIn table) s)
     (table-fits false table, rw (table-none (tableAnswer table)) (omega arith))) room)
 

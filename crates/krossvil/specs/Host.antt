@@ -13,6 +13,9 @@ use Rattle.runtime.specs.Run.{runOf, answerOf}
 use Rattle.convert.specs.declared.Answer.the-variants.{BufferTooShort}
 use Rattle.convert.specs.Answer as convert
 use Rattle.convert.specs.Convert as convert′
+use Rattle.stamped.specs.declared.Answer.the-variants as stamped′
+use Rattle.stamped.specs.Answer as stamped
+use Rattle.stamped.specs.Stamped.{readOf}
 use Rattle.reaction.specs.Answer as reaction
 use Rattle.reaction.specs.Reaction.{reactOf}
 
@@ -60,3 +63,9 @@ convertTold table buffer room = told (convert.replyOf (answerIn BufferTooShort (
 
 abbrev pub convertTable : List ℕ → List ℕ → ℕ → List ℕ
 convertTable table buffer room = bufferAfter (convertTold table buffer room) (bufferIn (convert′.madeOf table) buffer) buffer
+
+abbrev pub stampedTold : List ℕ → List ℕ → ℕ → Reply
+stampedTold bytes buffer room = told (stamped.replyOf (answerIn stamped′.BufferTooShort (readOf bytes) (length buffer))) room
+
+abbrev pub stampedJournal : List ℕ → List ℕ → ℕ → List ℕ
+stampedJournal bytes buffer room = bufferAfter (stampedTold bytes buffer room) (bufferIn (readOf bytes) buffer) buffer

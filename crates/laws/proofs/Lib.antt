@@ -11,3 +11,5 @@ pub mod Longest
 pub mod Emptied
 pub mod Conversions
 pub mod Timers
+pub mod Gaps
+pub mod Stamps

@@ -4,3 +4,5 @@ pub mod Journals
 pub mod Runtimes
 pub mod Conversions
 pub mod Timers
+pub mod Gaps
+pub mod Stamps

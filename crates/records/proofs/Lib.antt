@@ -1,4 +1,5 @@
 pub mod Shapes
+pub mod Lengths
 pub mod Reading
 pub mod Widths
 pub mod Written
@@ -6,4 +7,5 @@ pub mod Places
 pub mod Passing
 pub mod Fields
 pub mod JournalReader
+pub mod StampReader
 pub mod StimulusReader

@@ -1,0 +1,62 @@
+/* An example host: reads a stamped journal and writes its long form, the journal with its times. It prints how many bytes that
+ * has, or the refusal, and then writes nothing.
+ *
+ *   rt staticlib krossvil
+ *   gcc -O2 -Iinclude examples/unstamp.c target/staticlib/libkrossvil.a -o unstamp
+ *   ./unstamp examples/short-clock/stamped.bin journal.bin
+ */
+#include <stdio.h>
+#include "krossvil.h"
+
+/* One byte more than the longest stamped journal lets a file that is too long be turned down as such. */
+static uint8_t stamped[KROSSVIL_STAMPED_MAX + 1], journal[KROSSVIL_JOURNAL_MAX];
+
+static int load(const char *path, uint8_t *bytes, size_t room, size_t *size)
+{
+    FILE *file = fopen(path, "rb");
+    if (!file) {
+        fprintf(stderr, "%s cannot be opened\n", path);
+        return 0;
+    }
+    *size = fread(bytes, 1, room, file);
+    fclose(file);
+    return 1;
+}
+
+static int store(const char *path, const uint8_t *bytes, size_t size)
+{
+    FILE *file = fopen(path, "wb");
+    if (!file) {
+        fprintf(stderr, "%s cannot be opened\n", path);
+        return 0;
+    }
+    size_t written = fwrite(bytes, 1, size, file);
+    if (fclose(file) != 0 || written != size) {
+        fprintf(stderr, "%s cannot be written\n", path);
+        return 0;
+    }
+    return 1;
+}
+
+int main(int count, char **words)
+{
+    size_t size;
+    uint8_t answer[KROSSVIL_STAMPED_ANSWER];
+
+    if (count != 3) {
+        fprintf(stderr, "usage: unstamp STAMPED JOURNAL\n");
+        return 2;
+    }
+    if (!load(words[1], stamped, sizeof stamped, &size))
+        return 2;
+
+    uint64_t code = krossvil_read_stamped(stamped, size, journal, sizeof journal, answer, sizeof answer);
+    if (code != 0) {
+        printf("refused %u at %u\n", krossvil_number(code), krossvil_place(code));
+        return 1;
+    }
+    if (!store(words[2], journal, krossvil_read(answer, 0)))
+        return 2;
+    printf("bytes=%u\n", krossvil_read(answer, 0));
+    return 0;
+}
