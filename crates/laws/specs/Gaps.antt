@@ -13,6 +13,6 @@ abbrev pub Spaced : (most before : ℕ) → List Record → Type 0
 Spaced most before [] = Unit
 Spaced most before (r ∷ rs) = (before ≤ timeOf r) × (timeOf r ≤ before + most) × Spaced most (timeOf r) rs
 
--- In a run that is at most the cycle bound, the first record counted from 0: the cycle started by the record before.
+-- In a run it is at most the cycle bound later, and the first is so from 0: at the record before the cycle had begun.
 abbrev pub GapsWithinBound : Type 0
 GapsWithinBound = (t : Table) (input : ℕ) (rs : List Record) (last : Machine) → Runs t (start (t .initial) input) rs last → Spaced (t .bound) 0 rs
