@@ -1,11 +1,10 @@
 -- The theorems about stamped journals, as specs/Stamps states them.
 use mathlib.Core.Path.{_≡_, refl, sym, ap, _∙_}
 use mathlib.Core.List.{List, [], _∷_, _++_}
-use mathlib.Core.Bool.{Bool, true}
+use mathlib.Core.Bool.{Bool}
 use Prim.Native.Nat.{ℕ, _≤_}
 use native.Mathlib.Omega.{arith}
 use lib.ListN.{length}
-use Rattle.wire.specs.Field.{byteAt}
 use Rattle.wire.specs.Made.{made}
 use Rattle.wire.proofs.Made.{owed-made}
 use Rattle.table.specs.declared.Table.{Table}
@@ -13,9 +12,9 @@ use Rattle.table.specs.Table.{WellFormed}
 use Rattle.records.specs.declared.Record.{Record}
 use Rattle.records.specs.declared.Record.the-variants.{End}
 use Rattle.records.specs.Record.{timeOf}
-use Rattle.records.specs.Form.{Form, journal, stamped, clock, longestStamped, timeLength, innerLength}
-use Rattle.records.specs.Reading.{anyRecord, sizeOf, itemsOf}
-use Rattle.records.specs.Encode.{encode, placed, Writable, Inner, WrittenAs}
+use Rattle.records.specs.Form.{Form, journal, stamped, longestStamped}
+use Rattle.records.specs.Reading.{anyRecord}
+use Rattle.records.specs.Encode.{encode, placed, Inner, WrittenAs}
 use Rattle.records.proofs.Written.{reads-written, stamp-tells}
 use Rattle.records.proofs.Lengths.{NoEnd, inner-no-end, encode-length}
 use Rattle.records.proofs.Reading.{opening-at}
@@ -24,7 +23,7 @@ use Rattle.journal.specs.declared.Numbers.{Numbers}
 use Rattle.stamped.specs.declared.Answer.the-variants.{Written, BufferTooShort}
 use Rattle.stamped.specs.Stamped.{listed, listOf, madeOf, readOf}
 use Rattle.stamped.proofs.Over.{opened-with}
-use Rattle.stamped.proofs.Lengths.{Short, read-short}
+use Rattle.stamped.proofs.Lengths.{read-short}
 use Rattle.laws.specs.Journals.{AcceptedRun}
 use Rattle.laws.specs.Stamps.{stampedForm, StampedComesBack, ReadsNoLonger}
 use Rattle.laws.proofs.Gaps.{TellsGaps, gaps-within-bound, restated}
