@@ -18,6 +18,7 @@ use Rattle.records.specs.declared.Record.the-variants.{Change, Poll, Test, Tick
 use Rattle.records.specs.Form.{Form, journal}
 use Rattle.records.specs.Encode.{kept, Recovers}
 use Rattle.records.proofs.Written.{journal-recovers}
+use Rattle.records.proofs.Says.{keeps-all}
 use Rattle.machine.specs.declared.Machine.{Machine}
 use Rattle.machine.specs.Machine.{start, after}
 use Rattle.machine.specs.Run.{Runs, ticksOf, stateFrom, movesOf, mostLeft}
@@ -27,10 +28,10 @@ use Rattle.machine.proofs.Counts.{ticks-more}
 use Rattle.journal.specs.declared.Numbers.{Numbers}
 use Rattle.journal.specs.declared.Answer.the-variants.{Accepted, TableRefused}
 use Rattle.journal.specs.Check.{numbersOf, answerOf, answerIn, checkOf}
-use Rattle.laws.specs.Walks.{RunsOver}
+use Rattle.machine.specs.RunsOver.{RunsOver}
 use Rattle.laws.specs.Journals.{AcceptedRun, AcceptsExactly, ChecksExactly}
 use Rattle.laws.proofs.Tables.{passes-exactly, holds-that-table}
-use Rattle.laws.proofs.Walks.{over-runs, runs-over}
+use Rattle.machine.proofs.RunsOver.{over-runs, runs-over}
 
 -- ---- Acceptance
 
@@ -51,19 +52,6 @@ pub left-end : (t : Table) (m : Machine) (rs : List Record) (end : ℕ) → most
 unfolding most
 left-end t m [] end = refl
 left-end t m (r ∷ rs) end = rw (left-end t (after t m r) rs end) refl
-
--- A form that says every value keeps all of a record.
-module _ (F : Form) (valued : F .valued ≡ true) where
-  pub all-kept : (r : Record) → kept F r ≡ r
-  all-kept (Change time input) = refl
-  all-kept (Poll time input) = rw valued refl
-  all-kept (Test time verdict) = rw valued refl
-  all-kept (Tick time state) = rw valued refl
-  all-kept (End time) = refl
-
-  pub keeps-all : (rs : List Record) → map (kept F) rs ≡ rs
-  keeps-all [] = refl
-  keeps-all (r ∷ rs) = rw (all-kept r, keeps-all rs) refl
 
 module _ (F : Form) (valued : F .valued ≡ true) (t : Table) (s : List ℕ) (n : Numbers) where
   abbrev AsRun : Type 0

@@ -15,7 +15,7 @@ use Rattle.runtime.specs.declared.Answer.the-variants.{TableRefused}
 use Rattle.runtime.specs.Run.{journal, madeUnder, runOf}
 use Rattle.runtime.proofs.Lengths.{ran-lengths, journal-short}
 use Rattle.laws.specs.Runtimes.{eventFor, EightForAnEvent, NeverTooLong}
-use Rattle.laws.proofs.Walks.{over-written}
+use Rattle.machine.proofs.RunsOver.{over-written}
 use Rattle.laws.proofs.Runtimes.{wrote}
 
 made-under : (table s j : List ℕ) → runOf table s ≡ journal j → madeUnder (tableIn table) s ≡ journal j

@@ -2,7 +2,6 @@ pub mod Rows
 pub mod Timing
 pub mod Encoding
 pub mod Tables
-pub mod Walks
 pub mod Journals
 pub mod Runtimes
 pub mod Never28
@@ -11,5 +10,4 @@ pub mod Longest
 pub mod Emptied
 pub mod Conversions
 pub mod Timers
-pub mod Gaps
 pub mod Stamps

@@ -26,9 +26,9 @@ use Rattle.machine.specs.Walk.{inTable, filled}
 use Rattle.machine.proofs.Steps.{taken-step, verdict-small}
 use Rattle.runtime.specs.declared.Answer.the-variants.{TableRefused}
 use Rattle.runtime.specs.Run.{journal, madeOf, madeUnder, runOf}
-use Rattle.laws.specs.Walks.{RunsOver}
+use Rattle.machine.specs.RunsOver.{RunsOver}
 use Rattle.laws.specs.Runtimes.{StimulusOf, eventFor, LongestIsMade}
-use Rattle.laws.proofs.Walks.{runs-over}
+use Rattle.machine.proofs.RunsOver.{runs-over}
 use Rattle.laws.proofs.Never28.{filled-agrees}
 use Rattle.laws.proofs.Lengths.{eight-for-an-event}
 

@@ -26,6 +26,7 @@ use Rattle.records.specs.Form as form
 use Rattle.records.specs.Form.{longestStimulus}
 use Rattle.records.specs.Encode.{bytesFrom, encode, kept, Writable, Inner}
 use Rattle.records.proofs.Written.{stimulus-recovers}
+use Rattle.records.proofs.Says.{in-time, all-kept, keeps-all}
 use Rattle.machine.specs.declared.Machine.{Machine}
 use Rattle.machine.specs.Machine.{start, agrees, after}
 use Rattle.machine.specs.Run.{Runs, ticks, ticksOf, movesOf, mostLeft}
@@ -41,31 +42,21 @@ use Rattle.journal.specs.declared.Answer.the-variants as answer
 use Rattle.runtime.specs.declared.Answer.the-variants.{Written, TableRefused, BufferTooShort}
 use Rattle.runtime.specs.Run.{journal, madeOf, madeUnder, runOf, answerOf}
 use Rattle.runtime.proofs.Lengths.{under-short}
-use Rattle.laws.specs.Walks.{RunsOver}
+use Rattle.machine.specs.RunsOver.{RunsOver}
 use Rattle.laws.specs.Journals.{AcceptedRun, JournalOf}
 use Rattle.laws.specs.Runtimes as laws
 use Rattle.laws.specs.Runtimes.{StimulusOf, eventFor, JournalFor, AcceptedFor, OnlyJournal}
 use Rattle.laws.specs.Runtimes.{KeepsTheStimulus, WritesAccepted, WritesTheOnly, SucceedsExactly}
 use Rattle.laws.specs.Runtimes.{RunsExactly, WritesTheJournal}
 use Rattle.laws.proofs.Tables.{passes-exactly, holds-that-table}
-use Rattle.laws.proofs.Walks.{completed-again, kept-end, kept-none, over-written, over-runs, runs-over}
-use Rattle.laws.proofs.Journals.{all-kept, keeps-all, run-accepted, under}
+use Rattle.machine.proofs.RunsOver.{completed-again, kept-end, kept-none, over-written, over-runs, runs-over}
+use Rattle.laws.proofs.Journals.{run-accepted, under}
 
 -- ---- Records of a journal, and their events
 
 module _ (t : Table) where
   -- A record of a journal may be written as it is.
-  timely : (time : ℕ) (b : Bool) → ((time ≤? latest) and b) ≡ true → time ≤ latest
-  timely time b h = leb-true time latest (both (time ≤? latest) b h .0)
-
-  in-time : (r : Record) → inTable form.journal t r ≡ true → timeOf r ≤ latest
-  in-time (Change time input) h = timely time _ h
-  in-time (Poll time input) h = timely time _ h
-  in-time (Test time verdict) h = timely time _ h
-  in-time (Tick time state) h = timely time _ h
-  in-time (End time) h = leb-true time latest h
-
-  -- Of its event too.
+  -- Its event is in range too.
   event-in-range : (r : Record) → inTable form.journal t r ≡ true → inTable form.stimulus t (eventFor r) ≡ true
   event-in-range (Change time input) h = h
   event-in-range (Poll time input) h = both (time ≤? latest) _ h .0
@@ -81,12 +72,12 @@ module _ (t : Table) where
   event-keeps (End time) = (refl, refl, refl)
 
   journal-writable : (before : ℕ) (r : Record) → inTable form.journal t r ≡ true → Writable form.journal (inTable form.journal t) before r
-  journal-writable before r h = record { in-range = h; whole = all-kept form.journal refl r; small = omega (arith, in-time r h); timed = refl }
+  journal-writable before r h = record { in-range = h; whole = all-kept form.journal refl r; small = omega (arith, in-time form.journal (t .states) (t .inputs) r h); timed = refl }
 
   event-writable : (before : ℕ) (r : Record) → inTable form.journal t r ≡ true → Writable form.stimulus (inTable form.stimulus t) before (eventFor r)
   event-writable before r h =
       let k = event-keeps r in
-      record { in-range = event-in-range r h; whole = k .2; small = omega (arith, in-time r h, k .1); timed = refl }
+      record { in-range = event-in-range r h; whole = k .2; small = omega (arith, in-time form.journal (t .states) (t .inputs) r h, k .1); timed = refl }
 
   inner-events : (end before before′ : ℕ) (rs : List Record) → Inner form.journal (inTable form.journal t) before rs end →
       Inner form.stimulus (inTable form.stimulus t) before′ (map eventFor rs) end

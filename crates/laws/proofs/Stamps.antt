@@ -16,9 +16,11 @@ use Rattle.records.specs.Form.{Form, journal, stamped, longestStamped}
 use Rattle.records.specs.Reading.{anyRecord}
 use Rattle.records.specs.Encode.{encode, placed, Inner, WrittenAs}
 use Rattle.records.proofs.Written.{reads-written, stamp-tells}
+use Rattle.records.proofs.Says.{in-time}
 use Rattle.records.proofs.Lengths.{NoEnd, inner-no-end, encode-length}
 use Rattle.records.proofs.Reading.{opening-at}
 use Rattle.machine.specs.Walk.{inTable}
+use Rattle.machine.proofs.Gaps.{TellsGaps, gaps-within-bound, inner-restated}
 use Rattle.journal.specs.declared.Numbers.{Numbers}
 use Rattle.stamped.specs.declared.Answer.the-variants.{Written, BufferTooShort}
 use Rattle.stamped.specs.Stamped.{listed, listOf, madeOf, readOf}
@@ -26,11 +28,10 @@ use Rattle.stamped.proofs.Over.{opened-with}
 use Rattle.stamped.proofs.Lengths.{read-short}
 use Rattle.laws.specs.Journals.{AcceptedRun}
 use Rattle.laws.specs.Stamps.{stampedForm, StampedComesBack, ReadsNoLonger}
-use Rattle.laws.proofs.Gaps.{TellsGaps, gaps-within-bound, restated}
 use Rattle.laws.proofs.Journals.{checks-exactly}
 
 stamps-tell : TellsGaps stamped
-stamps-tell = record { valued = refl; small = λ before time low high. omega arith; timed = stamp-tells }
+stamps-tell = record { valued = refl; small = λ before time low high late. omega arith; timed = stamp-tells }
 
 list-placed : (F : Form) (at : ℕ) (rs : List Record) (end : ℕ) → listOf (placed F at rs end) ≡ listed (rs ++ End end ∷ [])
 unfolding listOf placed
@@ -49,7 +50,7 @@ module _ (t : Table) (good : WellFormed t) (j : List ℕ) (n : Numbers) (run : A
 
   inner : Inner stamped anyRecord 0 (run .records) (n .end)
   inner =
-      restated journal stamped stamps-tell (inTable journal t) anyRecord (λ r h. refl) (t .bound) (omega (arith, good .bound .1)) 0 (run .records) (n .end)
+      inner-restated journal stamped stamps-tell (inTable journal t) anyRecord (in-time journal (t .states) (t .inputs)) (λ r h. refl) (t .bound) (omega (arith, good .bound .1)) 0 (run .records) (n .end)
       (run .written .inner) (gaps-within-bound t (run .input) (run .records ++ End (n .end) ∷ []) (run .last) (run .runs))
 
   no-end : NoEnd (run .records)

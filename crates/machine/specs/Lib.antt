@@ -5,6 +5,8 @@ pub mod Run
 pub mod Left
 pub mod Longest
 pub mod Walk
+pub mod RunsOver
+pub mod Gaps
 pub mod AsTimers
 pub mod Turn
 pub mod Lent

@@ -1,4 +1,5 @@
 pub mod Shapes
+pub mod Says
 pub mod Lengths
 pub mod Reading
 pub mod Widths

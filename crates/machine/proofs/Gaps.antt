@@ -7,16 +7,16 @@ use native.Mathlib.Omega.{arith}
 use Rattle.table.specs.declared.Table.{Table}
 use Rattle.records.specs.declared.Record.{Record}
 use Rattle.records.specs.declared.Record.the-variants.{Change, Poll, Test, Tick, End}
-use Rattle.records.specs.Record.{timeOf}
+use Rattle.records.specs.Record.{timeOf, latest}
 use Rattle.records.specs.Form.{Form, clock, numbersBelow}
 use Rattle.records.specs.Encode.{Writable, Inner}
+use Rattle.records.proofs.Says.{all-kept}
 use Rattle.machine.specs.declared.Machine.{Machine}
 use Rattle.machine.specs.Machine.{start, after}
 use Rattle.machine.specs.Run.{Runs}
 use Rattle.machine.proofs.Steps.{step-taken}
 use Rattle.machine.proofs.Before.{time-after}
-use Rattle.laws.specs.Gaps.{Spaced, GapsWithinBound}
-use Rattle.laws.proofs.Journals.{all-kept}
+use Rattle.machine.specs.Gaps.{Spaced, GapsWithinBound}
 
 started : (t : Table) (m : Machine) (r : Record) → m .start ≤ timeOf r → (after t m r) .start ≤ timeOf r
 started t m (Change time input) h = h
@@ -38,24 +38,24 @@ gaps-within-bound t input rs last runs = gaps-from t (start (t .initial) input) 
 
 -- ---- Records in another form
 
--- A form that says every value, and tells a time that is less than 65,536 later than the time before.
+-- A form that says every value, and tells a time that is less than 65,536 later than the time before and not too late.
 pub record TellsGaps (F : Form) : Type 0 where
   pub valued : F .valued ≡ true
-  pub small : (before time : ℕ) → before ≤ time → time < before + clock → F .numberFor before time < numbersBelow (F .width)
+  pub small : (before time : ℕ) → before ≤ time → time < before + clock → time ≤ latest → F .numberFor before time < numbersBelow (F .width)
   pub timed : (before time : ℕ) → before ≤ time → time < before + clock → F .timeFrom before (F .numberFor before time) ≡ time
 
 -- The same records can be written in it, if what was allowed still is.
-module _ (F G : Form) (tells : TellsGaps G) (allows allows′ : Record → Bool) (still : (r : Record) → allows r ≡ true → allows′ r ≡ true)
-    (most : ℕ) (few : most < clock) where
+module _ (F G : Form) (tells : TellsGaps G) (allows allows′ : Record → Bool) (timely : (r : Record) → allows r ≡ true → timeOf r ≤ latest)
+    (still : (r : Record) → allows r ≡ true → allows′ r ≡ true) (most : ℕ) (few : most < clock) where
   writable : (before : ℕ) (r : Record) → Writable F allows before r → before ≤ timeOf r → timeOf r ≤ before + most → Writable G allows′ before r
   writable before r w low high = record {
     in-range = still r (w .in-range);
     whole = all-kept G (tells .valued) r;
-    small = tells .small before (timeOf r) low (omega arith);
+    small = tells .small before (timeOf r) low (omega arith) (timely r (w .in-range));
     timed = tells .timed before (timeOf r) low (omega arith);
   }
 
-  pub restated : (before : ℕ) (rs : List Record) (end : ℕ) → Inner F allows before rs end → Spaced most before (rs ++ End end ∷ []) → Inner G allows′ before rs end
-  restated before [] end w (low, high, rest) = writable before (End end) w low high
-  restated before (r ∷ rs) end (other, w, more) (low, high, rest) =
-      (other, writable before r w low high, restated (timeOf r) rs end more rest)
+  pub inner-restated : (before : ℕ) (rs : List Record) (end : ℕ) → Inner F allows before rs end → Spaced most before (rs ++ End end ∷ []) → Inner G allows′ before rs end
+  inner-restated before [] end w (low, high, rest) = writable before (End end) w low high
+  inner-restated before (r ∷ rs) end (other, w, more) (low, high, rest) =
+      (other, writable before r w low high, inner-restated (timeOf r) rs end more rest)
