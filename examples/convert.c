@@ -6,37 +6,11 @@
  *   ./convert examples/idle-sets/old-table.bin table.bin
  */
 #include <stdio.h>
+#include "files.h"
 #include "krossvil.h"
 
 /* An old table has at most 1,338 bytes. */
 static uint8_t old_table[2048], new_table[2048];
-
-static int load(const char *path, uint8_t *bytes, size_t room, size_t *size)
-{
-    FILE *file = fopen(path, "rb");
-    if (!file) {
-        fprintf(stderr, "%s cannot be opened\n", path);
-        return 0;
-    }
-    *size = fread(bytes, 1, room, file);
-    fclose(file);
-    return 1;
-}
-
-static int store(const char *path, const uint8_t *bytes, size_t size)
-{
-    FILE *file = fopen(path, "wb");
-    if (!file) {
-        fprintf(stderr, "%s cannot be opened\n", path);
-        return 0;
-    }
-    size_t written = fwrite(bytes, 1, size, file);
-    if (fclose(file) != 0 || written != size) {
-        fprintf(stderr, "%s cannot be written\n", path);
-        return 0;
-    }
-    return 1;
-}
 
 int main(int count, char **words)
 {

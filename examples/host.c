@@ -5,22 +5,11 @@
  *   ./host examples/classroom/table.bin examples/classroom/stimulus.bin
  */
 #include <stdio.h>
+#include "files.h"
 #include "krossvil.h"
 
 /* A table has at most 1,626 bytes; one byte more than the longest stimulus lets a file that is too long be turned down as such. */
 static uint8_t table[2048], stimulus[KROSSVIL_STIMULUS_MAX + 1], journal[KROSSVIL_JOURNAL_MAX];
-
-static int load(const char *path, uint8_t *bytes, size_t room, size_t *size)
-{
-    FILE *file = fopen(path, "rb");
-    if (!file) {
-        fprintf(stderr, "%s cannot be opened\n", path);
-        return 0;
-    }
-    *size = fread(bytes, 1, room, file);
-    fclose(file);
-    return 1;
-}
 
 /* Prints a refusal; 1 if there was none. */
 static int passed(const char *what, uint64_t code)

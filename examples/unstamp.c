@@ -6,37 +6,11 @@
  *   ./unstamp examples/short-clock/stamped.bin journal.bin
  */
 #include <stdio.h>
+#include "files.h"
 #include "krossvil.h"
 
 /* One byte more than the longest stamped journal lets a file that is too long be turned down as such. */
 static uint8_t stamped[KROSSVIL_STAMPED_MAX + 1], journal[KROSSVIL_JOURNAL_MAX];
-
-static int load(const char *path, uint8_t *bytes, size_t room, size_t *size)
-{
-    FILE *file = fopen(path, "rb");
-    if (!file) {
-        fprintf(stderr, "%s cannot be opened\n", path);
-        return 0;
-    }
-    *size = fread(bytes, 1, room, file);
-    fclose(file);
-    return 1;
-}
-
-static int store(const char *path, const uint8_t *bytes, size_t size)
-{
-    FILE *file = fopen(path, "wb");
-    if (!file) {
-        fprintf(stderr, "%s cannot be opened\n", path);
-        return 0;
-    }
-    size_t written = fwrite(bytes, 1, size, file);
-    if (fclose(file) != 0 || written != size) {
-        fprintf(stderr, "%s cannot be written\n", path);
-        return 0;
-    }
-    return 1;
-}
 
 int main(int count, char **words)
 {

@@ -30,7 +30,8 @@ static uint32_t below(uint32_t count)
 
 struct input {
     uint8_t table[TABLE_ROOM], stimulus[KROSSVIL_STIMULUS_MAX], journal[KROSSVIL_JOURNAL_MAX];
-    size_t table_len, stimulus_len, journal_len;
+    uint8_t short_journal[KROSSVIL_SHORT_MAX];
+    size_t table_len, stimulus_len, journal_len, short_len;
     uint32_t states, inputs, bound, count_of_inputs;
 };
 
@@ -147,8 +148,17 @@ static uint32_t add_cycle(struct input *in, uint32_t start, bool irregular, uint
     return time;
 }
 
-/* A stimulus whose journal has at most so many bytes, and its journal. */
-static void make_run(struct input *in, bool irregular, size_t size)
+static void must_pass(uint64_t code)
+{
+    if (code != 0) {
+        fprintf(stderr, "bench: an input is refused\n");
+        exit(1);
+    }
+}
+
+/* A stimulus, its journal, and that as a short journal. The journal has at most `size` bytes, with eight bytes a record; or the
+ * short journal, with six. */
+static void make_run(struct input *in, bool irregular, size_t size, size_t record)
 {
     uint32_t time = 0;
     size_t records = 0;
@@ -156,19 +166,19 @@ static void make_run(struct input *in, bool irregular, size_t size)
     in->stimulus_len = 0;
     head(in->stimulus, &in->stimulus_len, 0x20, 1);
     add(in->stimulus, &in->stimulus_len, 0);
-    for (uint32_t k = 0; 11 + 8 * (records + 5) <= size && in->stimulus_len + 44 <= KROSSVIL_STIMULUS_MAX; k++)
+    for (uint32_t k = 0; 11 + record * (records + 5) <= size && in->stimulus_len + 44 <= KROSSVIL_STIMULUS_MAX; k++)
         time = add_cycle(in, time, irregular, k, &records);
     add_event(in, 0x2F, time);
-    if (plain_run(in->table, in->table_len, in->stimulus, in->stimulus_len, in->journal, sizeof in->journal, answer, 4)) {
-        fprintf(stderr, "bench: a stimulus is refused\n");
-        exit(1);
-    }
+    must_pass(plain_run(in->table, in->table_len, in->stimulus, in->stimulus_len, in->journal, sizeof in->journal, answer, 4));
     in->journal_len = krossvil_read(answer, 0);
+    must_pass(krossvil_shorten(in->table, in->table_len, in->journal, in->journal_len, in->short_journal,
+                               sizeof in->short_journal, answer, 4));
+    in->short_len = krossvil_read(answer, 0);
 }
 
 /* ---- jobs ---- */
 
-enum job { CHECK_TABLE, CHECK_JOURNAL, RUN, REACTION };
+enum job { CHECK_TABLE, CHECK_JOURNAL, CHECK_SHORT, RUN, REACTION };
 
 static uint8_t room[KROSSVIL_JOURNAL_MAX];
 
@@ -180,6 +190,9 @@ static uint64_t call(enum job job, bool library, const struct input *in, uint8_t
     case CHECK_JOURNAL:
         return (library ? krossvil_check_journal : plain_check_journal)(in->table, in->table_len, in->journal,
                                                                         in->journal_len, answer, 28);
+    case CHECK_SHORT:
+        return (library ? krossvil_check_short : plain_check_short)(in->table, in->table_len, in->short_journal,
+                                                                    in->short_len, answer, 28);
     case RUN:
         return (library ? krossvil_run : plain_run)(in->table, in->table_len, in->stimulus, in->stimulus_len, room,
                                                     sizeof room, answer, 4);
@@ -190,7 +203,12 @@ static uint64_t call(enum job job, bool library, const struct input *in, uint8_t
 
 static size_t bytes_of(enum job job, const struct input *in)
 {
-    return job == CHECK_JOURNAL ? in->journal_len : job == RUN ? in->stimulus_len : in->table_len;
+    switch (job) {
+    case CHECK_JOURNAL: return in->journal_len;
+    case CHECK_SHORT: return in->short_len;
+    case RUN: return in->stimulus_len;
+    default: return in->table_len;
+    }
 }
 
 /* Both must give the same number, the same answer and, the runtime, the same journal; and nothing here is refused. */
@@ -301,19 +319,21 @@ static double report(const char *name, enum job job)
 
 static void runs(enum job job, const char *job_name, const char *kind, bool irregular, uint32_t timers)
 {
-    static const size_t sizes[] = { 1024, 8192, 65536 };
+    /* The longest journal that is run from a stimulus has 48 KB as a short one. */
+    bool is_short = job == CHECK_SHORT;
+    const size_t sizes[] = { 1024, 8192, is_short ? 49152 : 65536 };
     double cost[3];
     for (int s = 0; s < 3; s++) {
         char name[64];
         for (int k = 0; k < used(); k++) {
             make_table(&inputs[k], irregular ? 8 : 2, irregular ? 8 : 2, irregular ? 60 : 6, timers);
-            make_run(&inputs[k], irregular, sizes[s]);
+            make_run(&inputs[k], irregular, sizes[s], is_short ? 6 : 8);
         }
         snprintf(name, sizeof name, "%s, %s, %zu KB", job_name, kind, sizes[s] / 1024);
         cost[s] = report(name, job);
     }
     if (!counting)
-        printf("    a byte at 64 KB costs %.2f of a byte at 8 KB\n", cost[2] / cost[1]);
+        printf("    a byte at %zu KB costs %.2f of a byte at 8 KB\n", sizes[2] / 1024, cost[2] / cost[1]);
 }
 
 static void tables(uint32_t states, uint32_t count_of_inputs)
@@ -339,10 +359,15 @@ int main(int argc, char **argv)
     runs(RUN, "runtime", "irregular", true, 0);
     tables(2, 2);
     tables(32, 32);
-    /* Irregular runs with timers. They come last, so that the lines above have the inputs that they had before. */
+    /* Irregular runs with timers, and then short journals. What is new comes last, so that the lines above it have the inputs that
+     * they had before. */
     runs(CHECK_JOURNAL, "journal check", "1 timer", true, 1);
     runs(CHECK_JOURNAL, "journal check", "4 timers", true, 4);
     runs(RUN, "runtime", "1 timer", true, 1);
     runs(RUN, "runtime", "4 timers", true, 4);
+    runs(CHECK_SHORT, "short check", "regular", false, 0);
+    runs(CHECK_SHORT, "short check", "irregular", true, 0);
+    runs(CHECK_SHORT, "short check", "1 timer", true, 1);
+    runs(CHECK_SHORT, "short check", "4 timers", true, 4);
     return 0;
 }

@@ -1,6 +1,6 @@
-/* Holds the library against the reference: seeded random tables, stimuli, journals, stamped journals and sets, sound and
- * damaged. For each case both are called with their own copies of the same bytes, and the value returned and every byte
- * of every buffer are compared, guard bytes included.
+/* Holds the library against the reference: seeded random tables, stimuli, journals, stamped and short journals, and sets,
+ * sound and damaged. For each case both are called with their own copies of the same bytes, and the value returned and
+ * every byte of every buffer are compared, guard bytes included.
  *
  *     differential [CASES [SEED]]
  *
@@ -17,12 +17,18 @@ uint64_t second_run(const uint8_t *, size_t, const uint8_t *, size_t, uint8_t *,
 uint64_t second_reaction(const uint8_t *, size_t, uint32_t, uint32_t, uint8_t *, size_t);
 uint64_t second_convert_table(const uint8_t *, size_t, uint8_t *, size_t, uint8_t *, size_t);
 uint64_t second_read_stamped(const uint8_t *, size_t, uint8_t *, size_t, uint8_t *, size_t);
+uint64_t second_check_short(const uint8_t *, size_t, const uint8_t *, size_t, uint8_t *, size_t);
+uint64_t second_shorten(const uint8_t *, size_t, const uint8_t *, size_t, uint8_t *, size_t, uint8_t *, size_t);
+uint64_t second_lengthen(const uint8_t *, size_t, const uint8_t *, size_t, uint8_t *, size_t, uint8_t *, size_t);
 #define krossvil_check_table second_check_table
 #define krossvil_check_journal second_check_journal
 #define krossvil_run second_run
 #define krossvil_reaction second_reaction
 #define krossvil_convert_table second_convert_table
 #define krossvil_read_stamped second_read_stamped
+#define krossvil_check_short second_check_short
+#define krossvil_shorten second_shorten
+#define krossvil_lengthen second_lengthen
 #else
 #include "krossvil.h"
 #endif
@@ -37,9 +43,11 @@ enum {
     JOURNAL_LIMIT = 65536,
     STIMULUS_LIMIT = 57344,
     STAMPED_LIMIT = 49152,
-    MOST_STAMPED = 8190, /* records between opening and end of a stamped journal */
+    SHORT_LIMIT = 65536,
+    MOST_RECORDS = 8190, /* between opening and end of a journal, and of a stamped one */
+    MOST_SHORT = 10921,  /* and of a short one */
     ROOM = 2 * 65536,
-    MOST_PIECES = 10000
+    MOST_PIECES = 11000
 };
 
 /* ---- chance ---- */
@@ -145,10 +153,10 @@ static void damage_bytes(struct bytes *bytes, const size_t *starts, size_t count
         else if (headed)
             bytes->at[start + 1 + below(2)] = percent(50) ? 0xFF : (uint8_t)below(256);
         break;
-    case 6: /* a tag: by one, of the other family, any */
+    case 6: /* a tag: by one, of another family, any */
         if (headed)
             bytes->at[start] = (uint8_t)(percent(40)   ? bytes->at[start] + (percent(50) ? 1u : 255u)
-                                         : percent(50) ? bytes->at[start] ^ 0x30u
+                                         : percent(50) ? bytes->at[start] ^ (between(1, 3) << 4)
                                                        : below(256));
         break;
     case 7: /* a few bytes more */
@@ -443,11 +451,13 @@ static void draw_table(struct plan *plan, struct bytes *bytes, enum table_kind k
     }
 }
 
-/* ---- journals, stimuli and stamped journals ---- */
+/* ---- journals, stimuli, stamped and short journals ---- */
 
-enum form { JOURNAL, STIMULUS, STAMPED };
+/* What an entry takes beside the table, or writes. */
+enum form { JOURNAL, STIMULUS, STAMPED, SHORT, TABLE, NOTHING };
 
-static const size_t limits[] = { JOURNAL_LIMIT, STIMULUS_LIMIT, STAMPED_LIMIT };
+static const char *const form_names[] = { "journal", "stimulus", "stamped journal", "short journal" };
+static const size_t limits[] = { JOURNAL_LIMIT, STIMULUS_LIMIT, STAMPED_LIMIT, SHORT_LIMIT };
 
 enum kind { OPENING, CHANGE, POLL, TEST, TICK, END };
 
@@ -462,21 +472,41 @@ static struct piece pieces[MOST_PIECES];
 static size_t piece_count;
 static size_t piece_starts[MOST_PIECES];
 
-/* A stamp is what two bytes have of a time. */
+static unsigned time_size(enum kind kind, enum form form)
+{
+    return kind == OPENING ? 0 : form == STAMPED || form == SHORT ? 2 : 4;
+}
+
+static bool has_value(enum kind kind, enum form form)
+{
+    return kind <= CHANGE || (kind != END && form != STIMULUS);
+}
+
+static size_t value_size(enum kind kind, enum form form)
+{
+    return time_size(kind, form) + (has_value(kind, form) ? 1u : 0u);
+}
+
+static size_t field_size(enum kind kind, enum form form)
+{
+    return 3 + value_size(kind, form);
+}
+
+/* A stamp is what two bytes have of a time, a gap what they have of the time since the record before. */
 static void write_pieces(enum form form, struct bytes *bytes)
 {
-    static const unsigned tags[] = { 0x0, 0x1, 0x2, 0x3, 0x4, 0xF };
-    unsigned family = form == STIMULUS ? 0x20 : 0x10;
+    static const unsigned families[] = { 0x10, 0x20, 0x10, 0x30 }, tags[] = { 0x0, 0x1, 0x2, 0x3, 0x4, 0xF };
+    uint32_t before = 0;
     bytes->len = 0;
     for (size_t k = 0; k < piece_count; k++) {
         const struct piece *piece = &pieces[k];
-        unsigned time_size = piece->kind == OPENING ? 0 : form == STAMPED ? 2 : 4;
-        bool valued = piece->kind <= CHANGE || (piece->kind != END && form != STIMULUS);
         piece_starts[k] = bytes->len;
-        head(bytes, family | tags[piece->kind], time_size + (valued ? 1u : 0u));
-        add_number(bytes, piece->time, time_size);
-        if (valued)
+        head(bytes, families[form] | tags[piece->kind], value_size(piece->kind, form));
+        add_number(bytes, form == SHORT ? piece->time - before : piece->time, time_size(piece->kind, form));
+        if (has_value(piece->kind, form))
             add(bytes, piece->value);
+        if (piece->kind != OPENING)
+            before = piece->time;
     }
 }
 
@@ -535,13 +565,13 @@ static void move(const struct plan *plan, struct machine *m, unsigned state, uin
     m->entry = time;
 }
 
-/* A stimulus that passes, of at most `limit` bytes, and of just that many if `limit` is reached. */
-static void draw_stimulus(const struct plan *plan, unsigned cycles, size_t limit, unsigned changes)
+/* The records of a run, in this form of at most `limit` bytes, and of just that many if `limit` is reached. */
+static void draw_records(const struct plan *plan, unsigned cycles, enum form form, size_t limit, unsigned changes)
 {
     struct machine m = { .state = plan->initial };
     unsigned phase = 0, input = below(plan->i), polled = input;
     uint32_t now = 0, last_change = 0, start = 0, ticks = 0;
-    size_t room = limit - 4 - 7;
+    size_t room = limit - field_size(OPENING, form) - field_size(END, form);
     bool lazy = percent(30); /* long cycles */
     pieces[0] = (struct piece){ .kind = OPENING, .value = input };
     piece_count = 1;
@@ -549,20 +579,19 @@ static void draw_stimulus(const struct plan *plan, unsigned cycles, size_t limit
     for (;;) {
         uint32_t high = start + plan->bound, hold_end = draw_hold_end(plan, &m);
         struct piece piece = { .latest = high, .hold_end = hold_end };
-        if (room < 7 || piece_count + 2 >= MOST_PIECES || (ticks >= cycles && phase >= stop_phase))
+        if (room < field_size(POLL, form) || piece_count + 2 >= MOST_PIECES || (ticks >= cycles && phase >= stop_phase))
             break;
         bool change = percent(changes);
         if (room < 120)
-            change = room % 7 != 0;
+            change = room % field_size(POLL, form) != 0;
         if (phase == 0 && now >= high)
             change = false; /* else no poll could follow */
-        if (change && room >= 8) {
+        if (change && room >= field_size(CHANGE, form)) {
             piece.kind = CHANGE;
             piece.time = draw_time(now, phase == 0 ? high - 1 : high);
             piece.value = percent(25) ? input : below(plan->i);
             input = piece.value;
             last_change = piece.time;
-            room -= 8;
         } else if (phase == 0) {
             uint32_t low = now;
             if (low <= last_change)
@@ -575,14 +604,12 @@ static void draw_stimulus(const struct plan *plan, unsigned cycles, size_t limit
             piece.time = draw_time_near(low, high, hold_end);
             polled = piece.value = input;
             phase = 1;
-            room -= 7;
         } else if (phase == 1) {
             piece.kind = TEST;
             piece.time = draw_time_near(now, high, hold_end);
             bool held = holds(plan, &m, polled, piece.time);
             piece.value = held ? 0 : 1;
             phase = held ? 2 : 3;
-            room -= 7;
         } else {
             piece.kind = TICK;
             piece.time = lazy ? high : draw_time_near(now, high, hold_end);
@@ -592,8 +619,8 @@ static void draw_stimulus(const struct plan *plan, unsigned cycles, size_t limit
             start = piece.time;
             phase = 0;
             ticks++;
-            room -= 7;
         }
+        room -= field_size(piece.kind, form);
         now = piece.time;
         pieces[piece_count++] = piece;
     }
@@ -650,6 +677,15 @@ static void damage_time(struct piece *piece, uint32_t before)
     }
 }
 
+/* The time of a record. The records after it stay where they are, or as far behind it as they were. */
+static void damage_time_at(size_t k, bool along)
+{
+    uint32_t time = pieces[k].time;
+    damage_time(&pieces[k], pieces[k - 1].time);
+    for (size_t later = k + 1; along && later < piece_count; later++)
+        pieces[later].time += pieces[k].time - time;
+}
+
 static void damage_value(struct piece *piece, const struct plan *plan)
 {
     uint32_t count = piece->kind == TEST ? 2 : piece->kind == TICK ? plan->q : plan->i;
@@ -671,7 +707,7 @@ static void remove_piece(size_t at)
     piece_count--;
 }
 
-static void damage_pieces(const struct plan *plan)
+static void damage_pieces(const struct plan *plan, enum form form)
 {
     if (piece_count < 2)
         return;
@@ -685,7 +721,7 @@ static void damage_pieces(const struct plan *plan)
     case 0:
     case 1:
     case 2:
-    case 3: damage_time(&pieces[k], pieces[k - 1].time); break;
+    case 3: damage_time_at(k, form == SHORT && percent(60)); break;
     case 4:
     case 5: damage_value(&pieces[percent(10) ? 0 : k], plan); break;
     case 6: { /* two records change places */
@@ -734,25 +770,44 @@ static void damage_pieces(const struct plan *plan)
 
 /* ---- one case ---- */
 
-enum entry { CHECK_TABLE, CHECK_JOURNAL, RUN, REACTION, CONVERT_TABLE, READ_STAMPED, ENTRIES };
+enum entry { CHECK_TABLE, CHECK_JOURNAL, RUN, REACTION, CONVERT_TABLE, READ_STAMPED, CHECK_SHORT, SHORTEN, LENGTHEN, ENTRIES };
 
-static const char *const entry_names[ENTRIES] = { "check_table", "check_journal", "run",
-                                                  "reaction",    "convert_table", "read_stamped" };
-static const char *const input_names[ENTRIES] = { NULL, "journal", "stimulus", NULL, NULL, "stamped journal" };
-static const size_t answer_sizes[ENTRIES] = { 0, 28, 4, 8, 4, 4 };
+static const struct {
+    const char *name;
+    enum form takes, writes;
+    size_t answer_size;
+    unsigned share, damaged; /* percent: of the random cases, and how many of these have a damaged table */
+} entries[ENTRIES] = {
+    [CHECK_TABLE] = { "check_table", NOTHING, NOTHING, 0, 15, 65 },
+    [CHECK_JOURNAL] = { "check_journal", JOURNAL, NOTHING, 28, 23, 11 },
+    [RUN] = { "run", STIMULUS, JOURNAL, 4, 21, 12 },
+    [REACTION] = { "reaction", NOTHING, NOTHING, 8, 12, 14 },
+    [CONVERT_TABLE] = { "convert_table", NOTHING, TABLE, 4, 7, 45 },
+    [READ_STAMPED] = { "read_stamped", STAMPED, JOURNAL, 4, 7, 0 },
+    [CHECK_SHORT] = { "check_short", SHORT, NOTHING, 28, 5, 30 },
+    [SHORTEN] = { "shorten", JOURNAL, SHORT, 4, 5, 30 },
+    [LENGTHEN] = { "lengthen", SHORT, JOURNAL, 4, 5, 30 },
+};
+
+/* Entries of one shape, the reference's and the library's. */
+static uint64_t (*const checks[ENTRIES][2])(const uint8_t *, size_t, const uint8_t *, size_t, uint8_t *, size_t) = {
+    [CHECK_JOURNAL] = { reference_check_journal, krossvil_check_journal },
+    [CHECK_SHORT] = { reference_check_short, krossvil_check_short },
+};
+static uint64_t (*const rewrites[ENTRIES][2])(const uint8_t *, size_t, const uint8_t *, size_t, uint8_t *, size_t, uint8_t *,
+                                              size_t) = {
+    [RUN] = { reference_run, krossvil_run },
+    [SHORTEN] = { reference_shorten, krossvil_shorten },
+    [LENGTHEN] = { reference_lengthen, krossvil_lengthen },
+};
 
 struct call {
     enum entry entry;
-    const struct bytes *table, *input; /* input: journal, stimulus or stamped journal */
+    const struct bytes *table, *input; /* input: what it takes beside the table */
     uint32_t states, inputs;
-    size_t output_len, answer_len; /* output: journal or new table */
+    size_t output_len, answer_len; /* output: what it writes beside the answer */
     const struct bytes *right;     /* the output that a success must have, where that is known beforehand, or NULL */
 };
-
-static bool has_output(enum entry entry)
-{
-    return entry == RUN || entry == CONVERT_TABLE || entry == READ_STAMPED;
-}
 
 enum { GUARD = 64 };
 
@@ -817,12 +872,8 @@ static void call_side(const struct call *call, bool library, struct side *side)
         side->returned = (library ? krossvil_check_table : reference_check_table)(table, table_len);
         break;
     case CHECK_JOURNAL:
-        side->returned = (library ? krossvil_check_journal : reference_check_journal)(table, table_len, input,
-                                                                                      input_len, answer, answer_len);
-        break;
-    case RUN:
-        side->returned = (library ? krossvil_run : reference_run)(table, table_len, input, input_len, output,
-                                                                  output_len, answer, answer_len);
+    case CHECK_SHORT:
+        side->returned = checks[call->entry][library](table, table_len, input, input_len, answer, answer_len);
         break;
     case REACTION:
         side->returned = (library ? krossvil_reaction : reference_reaction)(table, table_len, call->states,
@@ -832,9 +883,13 @@ static void call_side(const struct call *call, bool library, struct side *side)
         side->returned = (library ? krossvil_convert_table : reference_convert_table)(table, table_len, output,
                                                                                       output_len, answer, answer_len);
         break;
-    default:
+    case READ_STAMPED:
         side->returned = (library ? krossvil_read_stamped : reference_read_stamped)(input, input_len, output,
                                                                                     output_len, answer, answer_len);
+        break;
+    default:
+        side->returned = rewrites[call->entry][library](table, table_len, input, input_len, output, output_len, answer,
+                                                        answer_len);
         break;
     }
     side->inputs_kept = (table_len == 0 || memcmp(table, call->table->at, table_len) == 0) &&
@@ -852,14 +907,9 @@ static uint32_t answer_number(const struct lent *answer, size_t k)
 /* How many bytes of its output buffer a side has to fill. */
 static size_t output_size(const struct call *call, const struct side *side)
 {
-    if (side->returned != 0)
+    if (side->returned != 0 || entries[call->entry].writes == NOTHING)
         return 0;
-    switch (call->entry) {
-    case RUN:
-    case READ_STAMPED: return answer_number(&side->answer, 0);
-    case CONVERT_TABLE: return call->table->len;
-    default: return 0;
-    }
+    return entries[call->entry].writes == TABLE ? call->table->len : answer_number(&side->answer, 0);
 }
 
 /* What must hold of one side by itself: a refusal changes nothing, a success nothing past the answer and the output, a
@@ -869,7 +919,7 @@ static const char *broken(const struct call *call, const struct side *side)
     bool success = side->returned == 0;
     if (!side->inputs_kept)
         return "bytes that were only read have changed";
-    size_t answer_size = success ? answer_sizes[call->entry] : 0;
+    size_t answer_size = success ? entries[call->entry].answer_size : 0;
     if (answer_size > call->answer_len)
         return "success with an answer buffer too short";
     if (touched(&side->answer, answer_size) != SIZE_MAX)
@@ -897,7 +947,8 @@ static size_t differs_at(const struct lent *a, const struct lent *b)
 }
 
 static uint64_t passed, mismatches;
-static uint64_t histogram[ENTRIES][32], other_numbers;
+enum { NUMBERS = 35 }; /* one more than the largest of a refusal */
+static uint64_t histogram[ENTRIES][NUMBERS], other_numbers;
 
 static void print_bytes(const char *name, const uint8_t *bytes, size_t len)
 {
@@ -923,18 +974,19 @@ static void print_lent(const char *name, const struct lent *reference, const str
 
 static void print_case(const char *label, const struct call *call, const char *reason)
 {
-    printf("first mismatch: %s, entry %s: %s\n", label, entry_names[call->entry], reason);
+    enum form takes = entries[call->entry].takes;
+    printf("first mismatch: %s, entry %s: %s\n", label, entries[call->entry].name, reason);
     print_returned("reference", reference_side.returned);
     print_returned("library", library_side.returned);
     print_lent("answer", &reference_side.answer, &library_side.answer);
     print_lent("output", &reference_side.output, &library_side.output);
     if (call->entry != READ_STAMPED)
         print_bytes("table", call->table->at, call->table->len);
-    if (input_names[call->entry] != NULL)
-        print_bytes(input_names[call->entry], call->input->at, call->input->len);
+    if (takes != NOTHING)
+        print_bytes(form_names[takes], call->input->at, call->input->len);
     if (call->entry == REACTION)
         printf("  states %08" PRIX32 ", inputs %08" PRIX32 "\n", call->states, call->inputs);
-    if (has_output(call->entry)) {
+    if (entries[call->entry].writes != NOTHING) {
         printf("  output buffer of %zu bytes\n", call->output_len);
         if (reference_side.returned == 0)
             print_bytes("reference's output", reference_side.output.at + reference_side.output.before,
@@ -947,8 +999,8 @@ static void print_case(const char *label, const struct call *call, const char *r
     }
 }
 
-/* Calls both sides and compares; `wanted`, if given, is what the paper says: the value, then the numbers. */
-static void compare(const char *label, const struct call *call, const uint64_t *wanted)
+/* Calls both sides and compares; `wanted`, if given, is what both must say: the value, then the numbers. Returns whether all is well. */
+static bool compare(const char *label, const struct call *call, const uint64_t *wanted)
 {
     size_t before = GUARD - below(8);
     uint8_t salt = (uint8_t)below(256);
@@ -972,16 +1024,16 @@ static void compare(const char *label, const struct call *call, const uint64_t *
         reason = broken(call, &library_side);
     if (reason == NULL && wanted != NULL) {
         if (library_side.returned != wanted[0])
-            reason = "both differ from the paper";
-        for (size_t k = 0; reason == NULL && wanted[0] == 0 && k < answer_sizes[call->entry] / 4; k++)
+            reason = "both differ from what is wanted";
+        for (size_t k = 0; reason == NULL && wanted[0] == 0 && k < entries[call->entry].answer_size / 4; k++)
             if (answer_number(&library_side.answer, k) != wanted[1 + k])
-                reason = "both differ from the paper";
+                reason = "both differ from what is wanted";
     }
 
     uint64_t number = library_side.returned >> 32;
     if (library_side.returned != 0 && number == 0)
-        number = 31;
-    if (number < 31)
+        number = NUMBERS;
+    if (number < NUMBERS)
         histogram[call->entry][number]++;
     else
         other_numbers++;
@@ -992,11 +1044,12 @@ static void compare(const char *label, const struct call *call, const uint64_t *
             print_case(label, call, reason);
         mismatches++;
     }
+    return reason == NULL;
 }
 
 /* ---- random cases ---- */
 
-static struct bytes table, input, scratch, long_form;
+static struct bytes table, input, scratch, other_form; /* the last: the records of the input, in another form */
 
 static uint32_t draw_states(const struct plan *plan, uint32_t inputs)
 {
@@ -1027,7 +1080,8 @@ static size_t draw_output_len(size_t exact)
     return percent(40) ? exact : percent(95) ? exact + between(1, 100) : JOURNAL_LIMIT + below(100);
 }
 
-/* The journal of the stimulus in `input`, by the reference, goes into the values of the pieces. */
+/* The journal of the stimulus in `input`, by the reference, goes into the values of the pieces. Those of a run that is too long
+ * for a stimulus stay as they were drawn. */
 static void take_values(const struct bytes *sound_table)
 {
     uint8_t length[4];
@@ -1035,25 +1089,33 @@ static void take_values(const struct bytes *sound_table)
         return;
     size_t at = 0;
     for (size_t k = 0; k < piece_count; k++) {
-        size_t size = pieces[k].kind == OPENING ? 4 : pieces[k].kind == END ? 7 : 8;
-        at += size;
-        if (size != 7)
+        at += field_size(pieces[k].kind, JOURNAL);
+        if (has_value(pieces[k].kind, JOURNAL))
             pieces[k].value = scratch.at[at - 1];
     }
 }
 
-/* The pieces of a run of the machine. */
+/* As many bytes as there may be, or a few more or less; of a short journal also around what can be lengthened. */
+static size_t draw_most(enum form form)
+{
+    if (form == SHORT)
+        return 9 + 6 * ((percent(50) ? MOST_RECORDS : MOST_SHORT) - 2 + (size_t)below(5));
+    return percent(60) ? STIMULUS_LIMIT - below(percent(50) ? 1 : 30) : STIMULUS_LIMIT + below(12);
+}
+
+/* The pieces of a run of the machine: as many as a stimulus has room for, or for a short journal as many as that has. */
 static void draw_run(const struct plan *plan, enum form form)
 {
     static struct bytes sound;
     size_t starts[6];
+    enum form sized = form == SHORT ? SHORT : STIMULUS;
 
-    if (percent(3)) { /* as long as may be, or a little longer */
-        size_t most = percent(60) ? STIMULUS_LIMIT - below(percent(50) ? 1 : 30) : STIMULUS_LIMIT + below(12);
-        draw_stimulus(plan, 1000000, most, percent(50) ? 0 : below(60));
+    if (percent(2)) {
+        size_t most = draw_most(sized);
+        draw_records(plan, 1000000, sized, most, percent(50) ? 0 : below(60));
     } else {
         unsigned cycles = percent(40) ? below(4) : percent(70) ? below(20) : below(120);
-        draw_stimulus(plan, cycles, STIMULUS_LIMIT, percent(30) ? 0 : below(60));
+        draw_records(plan, cycles, sized, limits[sized], percent(30) ? 0 : below(60));
     }
     if (form != STIMULUS) {
         write_pieces(STIMULUS, &input);
@@ -1062,22 +1124,22 @@ static void draw_run(const struct plan *plan, enum form form)
     }
 }
 
-/* Draws into `input`, sound or damaged, and returns whether it is sound. What a sound stamped journal is read as goes into
- * `long_form`. */
-static bool draw_input(const struct plan *plan, enum form form)
+/* Draws into `input`, sound or damaged, and returns whether it is sound. What has to be written of a sound one goes into
+ * `other_form`. */
+static bool draw_input(const struct plan *plan, enum form form, enum form other)
 {
     size_t limit = limits[form];
     if (form == STAMPED && percent(60))
-        draw_stamped(percent(4) ? MOST_STAMPED - 2 + below(5) : percent(60) ? below(6) : below(80));
+        draw_stamped(percent(4) ? MOST_RECORDS - 2 + below(5) : percent(60) ? below(6) : below(80));
     else
         draw_run(plan, form);
-    if (form == STAMPED)
-        write_pieces(JOURNAL, &long_form);
+    if (other != NOTHING)
+        write_pieces(other, &other_form);
 
     unsigned damages = percent(30) ? 0 : percent(75) ? 1 : 2;
     bool coarse = percent(form == STAMPED ? 70 : 40);
     for (unsigned k = 0; k < damages && !coarse; k++)
-        damage_pieces(plan);
+        damage_pieces(plan, form);
     write_pieces(form, &input);
     for (unsigned k = 0; k < damages && coarse; k++)
         damage_bytes(&input, piece_starts, piece_count, limit);
@@ -1105,46 +1167,71 @@ static size_t exact_output(enum entry entry)
     uint64_t refused;
     if (entry == CONVERT_TABLE)
         return table.len;
-    if (entry == RUN)
-        refused = reference_run(table.at, table.len, input.at, input.len, scratch.at, ROOM, length, 4);
-    else
+    if (entry == READ_STAMPED)
         refused = reference_read_stamped(input.at, input.len, scratch.at, ROOM, length, 4);
+    else
+        refused = rewrites[entry][0](table.at, table.len, input.at, input.len, scratch.at, ROOM, length, 4);
     return refused != 0 ? below(300) : (size_t)length[1] << 16 | (size_t)length[2] << 8 | length[3];
 }
 
-static uint64_t round_trips; /* accepted journals that came back from their stamps */
+static uint64_t came_back[ENTRIES]; /* accepted journals that came back from the form that the entry reads or writes */
 
-static bool accepts_long_form(void)
+static bool accepts_other_form(void)
 {
     uint8_t answer[28];
-    return reference_check_journal(table.at, table.len, long_form.at, long_form.len, answer, sizeof answer) == 0;
+    return reference_check_journal(table.at, table.len, other_form.at, other_form.len, answer, sizeof answer) == 0;
+}
+
+/* After a success of SHORTEN or LENGTHEN: what was written is turned back, and has the same numbers as what was given. */
+static void turn_back(const char *label, const struct call *there)
+{
+    static struct bytes turned;
+    uint64_t numbers[8] = { 0 };
+    bool shortened = there->entry == SHORTEN;
+    struct call back = *there;
+    turned.len = output_size(there, &library_side);
+    memcpy(turned.at, library_side.output.at + library_side.output.before, turned.len);
+
+    back.entry = shortened ? CHECK_JOURNAL : CHECK_SHORT;
+    back.output_len = 0;
+    back.answer_len = 28;
+    back.right = NULL;
+    compare(label, &back, NULL);
+    for (size_t k = 0; k < 7; k++)
+        numbers[1 + k] = answer_number(&library_side.answer, k);
+    back.input = &turned;
+    back.entry = shortened ? CHECK_SHORT : CHECK_JOURNAL;
+    compare(label, &back, numbers);
+    back.entry = shortened ? LENGTHEN : SHORTEN;
+    back.output_len = there->input->len;
+    back.right = there->input;
+    compare(label, &back, (const uint64_t[]){ 0, there->input->len });
+    came_back[there->entry]++;
+}
+
+static enum entry draw_entry(void)
+{
+    unsigned lot = below(100), entry = CHECK_TABLE;
+    while (lot >= entries[entry].share)
+        lot -= entries[entry++].share;
+    return (enum entry)entry;
 }
 
 static void random_case(uint64_t seed, uint64_t number)
 {
-    static const unsigned damaged_tables[ENTRIES] = { 65, 11, 11, 12, 40, 0 }; /* percent */
     static struct plan plan;
     struct call call = { .table = &table, .input = &input };
-    uint32_t lot;
     char label[64];
 
     seed_case(seed, number);
     snprintf(label, sizeof label, "case %" PRIu64 " of seed %" PRIu64, number, seed);
-    lot = below(100);
-    call.entry = lot < 17   ? CHECK_TABLE
-                 : lot < 44 ? CHECK_JOURNAL
-                 : lot < 70 ? RUN
-                 : lot < 84 ? REACTION
-                 : lot < 92 ? CONVERT_TABLE
-                            : READ_STAMPED;
-    draw_table(&plan, &table, draw_kind(call.entry), percent(damaged_tables[call.entry]));
+    call.entry = draw_entry();
+    enum form takes = entries[call.entry].takes, writes = entries[call.entry].writes;
+    draw_table(&plan, &table, draw_kind(call.entry), percent(entries[call.entry].damaged));
     input.len = 0;
-    if (call.entry == CHECK_JOURNAL)
-        draw_input(&plan, JOURNAL);
-    if (call.entry == RUN)
-        draw_input(&plan, STIMULUS);
-    if (call.entry == READ_STAMPED && draw_input(&plan, STAMPED))
-        call.right = &long_form;
+    bool sound = takes != NOTHING && draw_input(&plan, takes, writes);
+    if (sound && writes != NOTHING && call.entry != RUN) /* the runtime's goes by the table, which may be damaged */
+        call.right = &other_form;
     if (call.entry == REACTION) {
         call.inputs = percent(25) ? low_bits(plan.i) : draw_set(plan.i);
         call.states = draw_states(&plan, call.inputs);
@@ -1155,12 +1242,15 @@ static void random_case(uint64_t seed, uint64_t number)
         if (percent(4))
             call.states = (uint32_t)draw64();
     }
-    if (has_output(call.entry))
+    if (writes != NOTHING)
         call.output_len = draw_output_len(exact_output(call.entry));
-    call.answer_len = call.entry == CHECK_TABLE ? 0 : draw_answer_len(answer_sizes[call.entry]);
-    compare(label, &call, NULL);
-    if (call.right != NULL && library_side.returned == 0 && accepts_long_form())
-        round_trips++;
+    call.answer_len = call.entry == CHECK_TABLE ? 0 : draw_answer_len(entries[call.entry].answer_size);
+    if (!compare(label, &call, NULL) || library_side.returned != 0)
+        return;
+    if (call.entry == READ_STAMPED && call.right != NULL && accepts_other_form())
+        came_back[call.entry]++;
+    if (call.entry == SHORTEN || call.entry == LENGTHEN)
+        turn_back(label, &call);
 }
 
 /* ---- the paper's cases ---- */
@@ -1218,14 +1308,71 @@ static void expect(bool right, const char *otherwise)
     }
 }
 
+/* What is wanted of the short journal where this is wanted of the journal: the place is that of the same field. */
+static uint64_t in_short(uint64_t wanted)
+{
+    uint64_t place = wanted & 0xFFFFFFFFu;
+    return wanted - place + (place < 4 ? place : 4 + (place - 4) / 8 * 6);
+}
+
+/* The way from one form to the other: with just the room that it takes, and with a byte less for the output or the answer. */
+static void compare_way(const char *label, enum entry entry, const struct bytes *from, const struct bytes *to,
+                        uint64_t refused)
+{
+    struct call call = { .entry = entry, .table = &table, .input = from, .right = to };
+    const uint64_t wanted[] = { refused, to->len }, without_room[] = { refused != 0 ? refused : REFUSED(30, 0) };
+    call.output_len = to->len;
+    call.answer_len = 4;
+    compare(label, &call, wanted);
+    call.answer_len = 3;
+    compare(label, &call, without_room);
+    call.answer_len = 4;
+    call.output_len -= to->len == 0 ? 0 : 1;
+    compare(label, &call, without_room);
+}
+
+/* The pieces as a journal and as a short one. `wanted` is of the journal check, and has eight places. */
+static void compare_forms(const char *label, const uint64_t *wanted)
+{
+    static struct bytes journal, short_journal;
+    struct call call = { .table = &table, .answer_len = 32 };
+    uint64_t of_short[8];
+
+    write_pieces(JOURNAL, &journal);
+    write_pieces(SHORT, &short_journal);
+    memcpy(of_short, wanted, sizeof of_short);
+    of_short[0] = in_short(wanted[0]);
+    call.entry = CHECK_JOURNAL;
+    call.input = &journal;
+    compare(label, &call, wanted);
+    call.entry = CHECK_SHORT;
+    call.input = &short_journal;
+    compare(label, &call, of_short);
+    compare_way(label, SHORTEN, &journal, &short_journal, wanted[0]);
+    compare_way(label, LENGTHEN, &short_journal, &journal, of_short[0]);
+}
+
+/* Journals as a text has them, and what is wanted of the journal check. */
+struct told {
+    const char *journal;
+    uint64_t wanted[8];
+};
+
+static void told_cases(const char *name, const struct told *told, size_t count)
+{
+    char label[64];
+    for (size_t k = 0; k < count; k++) {
+        snprintf(label, sizeof label, "%s %zu", name, k);
+        read_pieces(told[k].journal);
+        compare_forms(label, told[k].wanted);
+    }
+}
+
 /* The classroom's journals, under its table with the hold or with the timer. */
 static void journal_cases(const struct plan *plan)
 {
 #define RUN_TO_3 "I0 c1,1 p2,1 t2,1 k3,1 c3,0 p5,0 t5,0 k6,1 "
-    static const struct {
-        const char *journal;
-        uint64_t wanted[8];
-    } journals[] = {
+    static const struct told journals[] = {
         { RUN_TO_3 "p7,0 t8,0 k9,1 p10,0 t10,1 k11,0 e12", { 0, 12, 4, 2, 0, 0, 4, 3 } },
         { RUN_TO_3 "p7,0 t8,1 k9,1 p10,0 t10,1 k11,0 e12", { REFUSED(28, 76) } },
         { "I0 e0", { 0, 0, 0, 0, 0, 0, 0, 0 } },
@@ -1240,31 +1387,21 @@ static void journal_cases(const struct plan *plan)
     };
     struct call call = { .table = &table, .input = &input, .answer_len = 32 };
     size_t starts[6];
-    char label[64];
 
     write_table(plan, 2, 2, &table, starts);
+    input.len = 0;
     call.entry = CHECK_TABLE;
     compare("classroom table", &call, (const uint64_t[]){ 0 });
-    for (size_t k = 0; k < sizeof journals / sizeof *journals; k++) {
-        snprintf(label, sizeof label, "paper's journal %zu", k);
-        read_pieces(journals[k].journal);
-        call.entry = CHECK_JOURNAL;
-        write_pieces(JOURNAL, &input);
-        compare(label, &call, journals[k].wanted);
-        if (k == 0) {
-            uint64_t length = input.len;
-            struct bytes *journal = &scratch;
-            memcpy(journal, &input, sizeof input);
-            call.entry = RUN;
-            call.output_len = 200;
-            write_pieces(STIMULUS, &input);
-            compare("paper's stimulus", &call, (const uint64_t[]){ 0, length });
-            bool same = table.len == 48 && length == 123 && input.len == 111 &&
-                        memcmp(library_side.output.at + library_side.output.before, journal->at, length) == 0;
-            expect(same, "the paper's run: the runtime's journal or a length differs");
-            call.output_len = 0;
-        }
-    }
+    told_cases("paper's journal", journals, sizeof journals / sizeof *journals);
+
+    read_pieces(journals[0].journal);
+    write_pieces(JOURNAL, &other_form);
+    write_pieces(STIMULUS, &input);
+    call.entry = RUN;
+    call.output_len = 200;
+    call.right = &other_form;
+    compare("paper's stimulus", &call, (const uint64_t[]){ 0, 123 });
+    expect(table.len == 48 && input.len == 111, "the paper's run: a length differs");
 }
 
 static void paper_cases(void)
@@ -1315,12 +1452,16 @@ static void timer_cases(void)
     compare("a reaction time with a timer", &call, (const uint64_t[]){ REFUSED(14, 0) });
     call.entry = CONVERT_TABLE;
     compare("a timer converted", &call, (const uint64_t[]){ REFUSED(2, 26) });
-    call.entry = CHECK_TABLE;
     for (size_t k = 0; k < sizeof changes / sizeof *changes; k++) {
         snprintf(label, sizeof label, "timer table, byte %zu is %u", changes[k].place, changes[k].byte);
         write_table(&plan, 2, 2, &table, starts);
         table.at[changes[k].place] = changes[k].byte;
-        compare(label, &call, &changes[k].wanted);
+        for (unsigned entry = CHECK_TABLE; entry < ENTRIES; entry++) {
+            call.entry = (enum entry)entry;
+            bool reads_timers = entry != CONVERT_TABLE && entry != READ_STAMPED;
+            if (entry == CHECK_TABLE || (reads_timers && changes[k].wanted != 0)) /* the table's refusals come first */
+                compare(label, &call, &changes[k].wanted);
+        }
     }
 }
 
@@ -1375,7 +1516,7 @@ static void longest_case(void)
 static void short_clock_case(void)
 {
     struct plan plan = classroom();
-    struct call call = { .table = &table, .input = &input, .output_len = 123, .answer_len = 28, .right = &long_form };
+    struct call call = { .table = &table, .input = &input, .output_len = 123, .answer_len = 28, .right = &other_form };
     size_t starts[6];
 
     plan.bound = 50000;
@@ -1383,7 +1524,7 @@ static void short_clock_case(void)
     write_table(&plan, 2, 2, &table, starts);
     read_pieces("I0 c20000,1 p30000,1 t30000,1 k40000,1 c65535,0 p65536,0 t65537,0 k90000,1 "
                 "p130000,0 t130000,0 k140000,1 p150000,0 t150000,1 k160000,0 e180000");
-    write_pieces(JOURNAL, &long_form);
+    write_pieces(JOURNAL, &other_form);
     write_pieces(STAMPED, &input);
     call.entry = READ_STAMPED;
     compare("short clock", &call, (const uint64_t[]){ 0, 123 });
@@ -1395,12 +1536,27 @@ static void short_clock_case(void)
 
     call = (struct call){ .entry = CHECK_JOURNAL, .table = &table, .input = &input, .answer_len = 28 };
     compare("short clock, stamps for times", &call, (const uint64_t[]){ REFUSED(21, 4) });
-    call.input = &long_form;
+    call.input = &other_form;
     compare("short clock, its times", &call, (const uint64_t[]){ 0, 180000, 4, 2, 0, 0, 64464, 50000 });
 }
 
-/* Stamped journals as a text has them; then one of 27 bytes, with fields at 0, 4, 10, 16 and 22, cut or with a byte
- * changed. */
+/* A stamped or short journal of 27 bytes, with fields at 0, 4, 10, 16 and 22, is cut to so many bytes and has one changed. */
+struct change {
+    size_t len, place;
+    uint8_t byte;
+    uint64_t wanted[2];
+};
+
+static void take_change(enum form form, const struct change *change, char *label, size_t room)
+{
+    snprintf(label, room, "%s, %zu bytes, byte %zu is %u", form_names[form], change->len, change->place, change->byte);
+    read_pieces("I0 p1,0 t2,1 k3,0 e4");
+    write_pieces(form, &input);
+    input.len = change->len;
+    input.at[change->place] = change->byte;
+}
+
+/* Stamped journals as a text has them; then that of take_change, changed in this way or that. */
 static void stamped_cases(void)
 {
     static const struct {
@@ -1419,11 +1575,7 @@ static void stamped_cases(void)
         { "I0 p1,0 I0 e1", { REFUSED(22, 10) } },
         { "I0 e1 e1", { REFUSED(22, 9) } },
     };
-    static const struct {
-        size_t len, place;
-        uint8_t byte;
-        uint64_t wanted[2];
-    } changes[] = {
+    static const struct change changes[] = {
         { 27, 0, 0x10, { 0, 35 } },           { 2, 0, 0x10, { REFUSED(20, 0) } },   { 3, 0, 0x20, { REFUSED(20, 0) } },
         { 27, 0, 0x20, { REFUSED(21, 0) } },  { 27, 0, 0x12, { REFUSED(21, 0) } },  { 27, 2, 0, { REFUSED(21, 0) } },
         { 9, 4, 0x22, { REFUSED(20, 4) } },   { 27, 5, 0x01, { REFUSED(20, 4) } },  { 27, 4, 0x22, { REFUSED(21, 4) } },
@@ -1436,22 +1588,17 @@ static void stamped_cases(void)
     char label[64];
 
     table.len = 0;
-    call.right = &long_form;
+    call.right = &other_form;
     for (size_t k = 0; k < sizeof journals / sizeof *journals; k++) {
         snprintf(label, sizeof label, "stamped journal %zu", k);
         read_pieces(journals[k].journal);
-        write_pieces(JOURNAL, &long_form);
+        write_pieces(JOURNAL, &other_form);
         write_pieces(STAMPED, &input);
         compare(label, &call, journals[k].wanted);
     }
     call.right = NULL;
     for (size_t k = 0; k < sizeof changes / sizeof *changes; k++) {
-        snprintf(label, sizeof label, "stamped journal, %zu bytes, byte %zu is %u", changes[k].len, changes[k].place,
-                 changes[k].byte);
-        read_pieces("I0 p1,0 t2,1 k3,0 e4");
-        write_pieces(STAMPED, &input);
-        input.len = changes[k].len;
-        input.at[changes[k].place] = changes[k].byte;
+        take_change(STAMPED, &changes[k], label, sizeof label);
         compare(label, &call, changes[k].wanted);
     }
 }
@@ -1462,15 +1609,15 @@ static void longest_stamped_case(void)
     struct call call = { .entry = READ_STAMPED, .table = &table, .input = &input, .answer_len = 4 };
 
     table.len = 0;
-    for (uint32_t k = 0; k <= MOST_STAMPED + 1; k++)
+    for (uint32_t k = 0; k <= MOST_RECORDS + 1; k++)
         pieces[k] = (struct piece){ .kind = POLL, .time = k * 65535 };
     pieces[0].kind = OPENING;
-    pieces[MOST_STAMPED + 1].kind = END;
-    piece_count = MOST_STAMPED + 2;
-    write_pieces(JOURNAL, &long_form);
+    pieces[MOST_RECORDS + 1].kind = END;
+    piece_count = MOST_RECORDS + 2;
+    write_pieces(JOURNAL, &other_form);
     write_pieces(STAMPED, &input);
     expect(input.len == 49149, "the longest stamped journal has not 49,149 bytes");
-    call.right = &long_form;
+    call.right = &other_form;
     call.output_len = 65531;
     compare("longest stamped journal", &call, (const uint64_t[]){ 0, 65531 });
     call.output_len = 65530;
@@ -1489,6 +1636,134 @@ static void longest_stamped_case(void)
     compare("the same, with two bytes of its end", &call, (const uint64_t[]){ REFUSED(20, 49150) });
 }
 
+/* Gaps up to the largest, 60,000, and above it; and fields out of order. */
+static void form_cases(void)
+{
+    static const struct told journals[] = {
+        { "I0", { REFUSED(20, 4) } },
+        { "I0 p1,0", { REFUSED(20, 12) } },
+        { "e0", { REFUSED(22, 0) } },
+        { "p1,0 I0 e1", { REFUSED(22, 0) } },
+        { "I0 I0 e1", { REFUSED(22, 4) } },
+        { "I0 p1,0 I2 e1", { REFUSED(22, 12) } },
+        { "I2 e1", { REFUSED(23, 0) } },
+        { "I0 e60000", { 0, 60000, 0, 0, 0, 0, 0, 0 } },
+        { "I0 e60001", { REFUSED(25, 4) } },
+        { "I0 e65535", { REFUSED(25, 4) } },
+        { "I0 p60000,0 t60000,1 k60000,0 c120000,1 e120000", { 0, 120000, 1, 0, 0, 0, 0, 60000 } },
+        { "I0 c59999,1 p60000,1 t60000,1 k60000,1 c60000,0 p120000,0 e120000", { 0, 120000, 1, 1, 1, 1, 0, 60000 } },
+        { "I0 p1,0 t30000,1 k60000,0 p60001,0 t90000,1 k120000,0 e180000", { 0, 180000, 2, 0, 0, 0, 0, 60000 } },
+        { "I0 p1,0 t30000,1 k60000,0 p60001,0 t90000,1 k120001,0 e120001", { REFUSED(25, 44) } },
+        { "I0 p1,0 t30000,1 k60000,0 p60001,0 t90000,1 e120001", { REFUSED(25, 44) } },
+    };
+    struct plan plan = classroom();
+    size_t starts[6];
+
+    plan.bound = 60000;
+    write_table(&plan, 2, 2, &table, starts);
+    told_cases("journal of long gaps", journals, sizeof journals / sizeof *journals);
+}
+
+/* For what is refused of a short journal: its check, and its way to a journal with no room for anything. */
+static void refused_short(const char *label, uint64_t of_check, uint64_t of_lengthen)
+{
+    struct call call = { .table = &table, .input = &input };
+    call.entry = CHECK_SHORT;
+    call.answer_len = of_check == REFUSED(30, 0) ? 27 : 28;
+    compare(label, &call, &of_check);
+    call.entry = LENGTHEN;
+    call.answer_len = 0;
+    compare(label, &call, &of_lengthen);
+}
+
+/* The short journal of take_change, changed in this way or that. */
+static void short_cases(void)
+{
+    static const struct change changes[] = {
+        { 27, 0, 0x30, { REFUSED(30, 0) } },   { 2, 0, 0x30, { REFUSED(20, 0) } },    { 3, 0, 0x10, { REFUSED(20, 0) } },
+        { 27, 0, 0x10, { REFUSED(21, 0) } },   { 27, 0, 0x32, { REFUSED(21, 0) } },   { 27, 2, 0, { REFUSED(21, 0) } },
+        { 27, 3, 2, { REFUSED(23, 0) } },      { 9, 4, 0x12, { REFUSED(20, 4) } },    { 27, 5, 0x01, { REFUSED(20, 4) } },
+        { 27, 4, 0x12, { REFUSED(21, 4) } },   { 27, 4, 0x22, { REFUSED(21, 4) } },   { 27, 4, 0x35, { REFUSED(21, 4) } },
+        { 27, 4, 0x30, { REFUSED(21, 4) } },   { 27, 4, 0x3F, { REFUSED(21, 4) } },   { 27, 6, 5, { REFUSED(21, 4) } },
+        { 27, 6, 2, { REFUSED(21, 4) } },      { 27, 8, 0, { REFUSED(27, 4) } },      { 27, 7, 1, { REFUSED(25, 4) } },
+        { 27, 9, 2, { REFUSED(23, 4) } },      { 27, 9, 1, { REFUSED(28, 4) } },      { 27, 10, 0x34, { REFUSED(26, 10) } },
+        { 27, 14, 2, { REFUSED(25, 16) } },    { 27, 14, 3, { REFUSED(25, 10) } },    { 27, 15, 2, { REFUSED(23, 10) } },
+        { 27, 15, 0, { REFUSED(28, 10) } },    { 27, 16, 0x33, { REFUSED(26, 16) } }, { 27, 21, 2, { REFUSED(23, 16) } },
+        { 27, 21, 1, { REFUSED(28, 16) } },    { 22, 0, 0x30, { REFUSED(20, 22) } },  { 26, 0, 0x30, { REFUSED(20, 22) } },
+        { 27, 22, 0x34, { REFUSED(21, 22) } }, { 27, 24, 1, { REFUSED(21, 22) } },    { 27, 24, 3, { REFUSED(20, 22) } },
+        { 27, 26, 3, { REFUSED(30, 0) } },     { 27, 26, 4, { REFUSED(25, 22) } },    { 28, 27, 0x3F, { REFUSED(22, 27) } },
+    };
+    struct plan plan = classroom();
+    size_t starts[6];
+    char label[64];
+
+    write_table(&plan, 2, 2, &table, starts);
+    for (size_t k = 0; k < sizeof changes / sizeof *changes; k++) {
+        take_change(SHORT, &changes[k], label, sizeof label);
+        refused_short(label, changes[k].wanted[0], changes[k].wanted[0]);
+    }
+}
+
+/* So many records between opening and end: a poll 60,000 after the cycle start, its test and its tick at the same instant,
+ * and again. */
+static void take_long_cycles(size_t count)
+{
+    uint32_t time = 0;
+    pieces[0] = (struct piece){ .kind = OPENING };
+    for (size_t k = 1; k <= count; k++) {
+        enum kind kind = (enum kind)(POLL + (k - 1) % 3);
+        time += kind == POLL ? 60000 : 0;
+        pieces[k] = (struct piece){ .kind = kind, .time = time, .value = kind == TEST };
+    }
+    pieces[count + 1] = (struct piece){ .kind = END, .time = time };
+    piece_count = count + 2;
+}
+
+/* The longest journal, and the longest short one: 8,190 records are 9 + 6 x 8,190 bytes of a short journal, and 11 + 8 x 8,190 of
+ * the journal that it stands for. With one more it cannot be lengthened; 10,921 are 65,535 bytes. */
+static void longest_short_case(void)
+{
+    static const uint64_t of_journal[8] = { 0, 163800000, 2730, 0, 0, 0, 0, 60000 };
+    struct plan plan = classroom();
+    struct call call = { .entry = CHECK_SHORT, .table = &table, .input = &input, .answer_len = 28 };
+    size_t starts[6];
+
+    plan.bound = 60000;
+    write_table(&plan, 2, 2, &table, starts);
+    take_long_cycles(MOST_RECORDS);
+    write_pieces(SHORT, &input);
+    expect(input.len == 49149, "the longest journal's short form has not 49,149 bytes");
+    compare_forms("longest journal and its short form", of_journal);
+
+    take_long_cycles(MOST_RECORDS + 1);
+    write_pieces(JOURNAL, &other_form);
+    write_pieces(SHORT, &input);
+    expect(other_form.len == 65539, "the shortest journal that is too long has not 65,539 bytes");
+    compare("a record more", &call, (const uint64_t[]){ 0, 163860000, 2730, 0, 0, 0, 0, 60000 });
+    refused_short("a record more, no room", REFUSED(30, 0), REFUSED(34, 0));
+    call.entry = LENGTHEN;
+    for (call.output_len = 65530; call.output_len <= 65540; call.output_len++)
+        compare("a record more, lengthened", &call, (const uint64_t[]){ REFUSED(34, 0) });
+    input.at[input.len - 1]++;
+    refused_short("a record more, the end too late", REFUSED(25, 49150), REFUSED(25, 49150));
+
+    take_long_cycles(MOST_SHORT);
+    write_pieces(SHORT, &input);
+    expect(input.len == 65535, "the longest short journal has not 65,535 bytes");
+    call.entry = CHECK_SHORT;
+    compare("longest short journal", &call, (const uint64_t[]){ 0, 218460000, 3640, 0, 0, 0, 0, 60000 });
+    refused_short("longest short journal, no room", REFUSED(30, 0), REFUSED(34, 0));
+    add(&input, 0x3F);
+    refused_short("longest short journal, and a byte", REFUSED(22, 65535), REFUSED(22, 65535));
+    add(&input, 0);
+    refused_short("longest short journal, and two bytes", REFUSED(19, 0), REFUSED(19, 0));
+    take_long_cycles(MOST_SHORT + 1);
+    write_pieces(SHORT, &input);
+    refused_short("a record more than the longest short journal's", REFUSED(19, 0), REFUSED(19, 0));
+    input.len = 65536;
+    refused_short("the same without its end", REFUSED(20, 65536), REFUSED(20, 65536));
+}
+
 /* ---- the whole ---- */
 
 static bool can_give(enum entry entry, unsigned number)
@@ -1499,13 +1774,15 @@ static bool can_give(enum entry entry, unsigned number)
         return true; /* success and the table's */
     if (number >= 11 && number <= 13)
         return entry != CONVERT_TABLE; /* it reads by the old rules */
-    switch (entry) {
-    case CHECK_JOURNAL: return (number >= 19 && number <= 28) || number == 30;
-    case RUN: return (number >= 19 && number <= 27) || number == 30;
-    case REACTION: return number == 9 || number == 10 || number == 14 || number == 30;
-    case CONVERT_TABLE: return number == 30;
-    default: return false;
-    }
+    if (number == 30)
+        return entry != CHECK_TABLE;
+    if (entry == REACTION)
+        return number == 9 || number == 10 || number == 14;
+    if (number == 24)
+        return entries[entry].takes == JOURNAL || entries[entry].takes == STIMULUS; /* a gap is never below 0 */
+    if (number >= 19 && number <= 28)
+        return entries[entry].takes != NOTHING && !(entry == RUN && number == 28);
+    return entry == LENGTHEN && number == 34;
 }
 
 /* How many numbers that an entry can give stayed away; those that came are added to `seen`. */
@@ -1514,9 +1791,9 @@ static uint64_t print_histogram(uint64_t *seen)
     uint64_t away = 0;
     printf("number");
     for (unsigned entry = 0; entry < ENTRIES; entry++)
-        printf(" %14s", entry_names[entry]);
+        printf(" %14s", entries[entry].name);
     printf("\n");
-    for (unsigned number = 0; number < 31; number++) {
+    for (unsigned number = 0; number < NUMBERS; number++) {
         bool some = false;
         for (unsigned entry = 0; entry < ENTRIES; entry++)
             some |= can_give((enum entry)entry, number) || histogram[entry][number] > 0;
@@ -1543,6 +1820,28 @@ static uint64_t print_histogram(uint64_t *seen)
     return away;
 }
 
+/* How many of the ways there and back nothing has gone; those that something went are added to `seen`. */
+static uint64_t print_came_back(uint64_t *seen)
+{
+    static const struct {
+        enum entry entry;
+        const char *journals;
+    } ways[] = {
+        { READ_STAMPED, "stamped and read back" },
+        { SHORTEN, "shortened and lengthened" },
+        { LENGTHEN, "short ones, lengthened and shortened" },
+    };
+    uint64_t away = 0;
+    for (size_t k = 0; k < sizeof ways / sizeof *ways; k++) {
+        printf("accepted journals, %s: %" PRIu64 "\n", ways[k].journals, came_back[ways[k].entry]);
+        if (came_back[ways[k].entry] == 0)
+            away++;
+        else
+            ++*seen;
+    }
+    return away;
+}
+
 static bool read_number(const char *text, uint64_t *number)
 {
     char *end;
@@ -1564,6 +1863,9 @@ int main(int argc, char **argv)
     short_clock_case();
     stamped_cases();
     longest_stamped_case();
+    form_cases();
+    short_cases();
+    longest_short_case();
     uint64_t asserted = passed, wrong = mismatches;
     for (uint64_t number = 0; number < cases; number++)
         random_case(seed, number);
@@ -1573,12 +1875,8 @@ int main(int argc, char **argv)
     else
         asserted++;
     uint64_t away = print_histogram(&asserted);
-    if (round_trips > 0)
-        asserted++;
-    else
-        away++;
     printf("random cases: %" PRIu64 "\n", cases);
-    printf("accepted journals, stamped and read back: %" PRIu64 "\n", round_trips);
+    away += print_came_back(&asserted);
     printf("mismatches: %" PRIu64 "\n", mismatches);
     printf("%" PRIu64 " passed, %" PRIu64 " failed\n", asserted, wrong + away);
     return mismatches + away == 0 ? 0 : 1;

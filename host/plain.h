@@ -1,6 +1,6 @@
-/* The entries, but for the converter and the reader of stamped journals, as an engineer would write them in C for use and not
- * for proof: what host/bench measures the library against. They answer as the functions of include/krossvil.h do, and
- * host/bench tests that before it measures. */
+/* The entries, but for those that turn one form into another, as an engineer would write them in C for use and not for proof:
+ * what host/bench measures the library against. They answer as the functions of include/krossvil.h do, and host/bench tests
+ * that before it measures. */
 #ifndef PLAIN_H
 #define PLAIN_H
 
@@ -11,6 +11,9 @@ uint64_t plain_check_table(const uint8_t *table, size_t table_len);
 
 uint64_t plain_check_journal(const uint8_t *table, size_t table_len, const uint8_t *journal, size_t journal_len,
                              uint8_t *answer, size_t answer_len);
+
+uint64_t plain_check_short(const uint8_t *table, size_t table_len, const uint8_t *short_journal, size_t short_len,
+                           uint8_t *answer, size_t answer_len);
 
 uint64_t plain_run(const uint8_t *table, size_t table_len, const uint8_t *stimulus, size_t stimulus_len,
                    uint8_t *journal, size_t journal_len, uint8_t *answer, size_t answer_len);

@@ -1,4 +1,4 @@
-/* A second implementation of the six entries in plain C, written from the rules alone. The library is
+/* A second implementation of the nine entries in plain C, written from the rules alone. The library is
  * held against it. Each entry returns 0, or refusal number * 2^32 + place; on success the answer's numbers stand at
  * the start of `answer`, four bytes each, most significant byte first.
  *
@@ -8,6 +8,9 @@
  *   reaction       reaction time, target
  *   convert_table  how many states have changed
  *   read_stamped   the journal's length
+ *   check_short    as check_journal
+ *   shorten        the short journal's length
+ *   lengthen       the journal's length
  *
  * With SECOND defined the same entries get the prefix second_, so that two builds can be linked into one program. */
 #ifndef REFERENCE_H
@@ -23,6 +26,9 @@
 #define reference_reaction second_reaction
 #define reference_convert_table second_convert_table
 #define reference_read_stamped second_read_stamped
+#define reference_check_short second_check_short
+#define reference_shorten second_shorten
+#define reference_lengthen second_lengthen
 #endif
 
 uint64_t reference_check_table(const uint8_t *table, size_t table_len);
@@ -41,5 +47,14 @@ uint64_t reference_convert_table(const uint8_t *table, size_t table_len, uint8_t
 
 uint64_t reference_read_stamped(const uint8_t *stamped, size_t stamped_len, uint8_t *journal, size_t journal_len,
                                 uint8_t *answer, size_t answer_len);
+
+uint64_t reference_check_short(const uint8_t *table, size_t table_len, const uint8_t *short_journal, size_t short_len,
+                               uint8_t *answer, size_t answer_len);
+
+uint64_t reference_shorten(const uint8_t *table, size_t table_len, const uint8_t *journal, size_t journal_len,
+                           uint8_t *short_journal, size_t short_len, uint8_t *answer, size_t answer_len);
+
+uint64_t reference_lengthen(const uint8_t *table, size_t table_len, const uint8_t *short_journal, size_t short_len,
+                            uint8_t *journal, size_t journal_len, uint8_t *answer, size_t answer_len);
 
 #endif

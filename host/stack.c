@@ -17,8 +17,8 @@ static const uint8_t timers[] = { UP_TO_FIELD_04, 7, 0, 32, TIMER, TIMER, TIMER,
 static const uint8_t *table;
 static size_t table_len;
 static uint8_t stimulus[KROSSVIL_STIMULUS_MAX], journal[KROSSVIL_JOURNAL_MAX], new_table[sizeof holds];
-static uint8_t stamped[KROSSVIL_STAMPED_MAX], answer[KROSSVIL_JOURNAL_ANSWER];
-static size_t stimulus_len, journal_len, stamped_len;
+static uint8_t stamped[KROSSVIL_STAMPED_MAX], short_journal[KROSSVIL_SHORT_MAX], answer[KROSSVIL_JOURNAL_ANSWER];
+static size_t stimulus_len, journal_len, stamped_len, short_len;
 static _Alignas(16) uint8_t stack[ROOM];
 static ucontext_t here, there;
 static uint64_t code;
@@ -83,6 +83,21 @@ static void read_stamped(void)
     code = krossvil_read_stamped(stamped, stamped_len, journal, sizeof journal, answer, sizeof answer);
 }
 
+static void check_short(void)
+{
+    code = krossvil_check_short(table, table_len, short_journal, short_len, answer, sizeof answer);
+}
+
+static void shorten(void)
+{
+    code = krossvil_shorten(table, table_len, journal, journal_len, short_journal, sizeof short_journal, answer, sizeof answer);
+}
+
+static void lengthen(void)
+{
+    code = krossvil_lengthen(table, table_len, short_journal, short_len, journal, sizeof journal, answer, sizeof answer);
+}
+
 static void call_on_own_stack(void (*call)(void))
 {
     memset(stack, PAINT, sizeof stack);
@@ -106,7 +121,7 @@ static int measure(const char *name, void (*call)(void), size_t promised)
     return good;
 }
 
-/* The five calls that take either kind of table: how many are good. */
+/* The eight calls that take either kind of table: how many are good. */
 static int measure_on(const char *kind, const uint8_t *bytes, size_t len)
 {
     static const size_t sizes[] = { 1000, 10000, KROSSVIL_STIMULUS_MAX };
@@ -121,6 +136,10 @@ static int measure_on(const char *kind, const uint8_t *bytes, size_t len)
     journal_len = krossvil_read(answer, 0);
     good += measure("check_journal", check_journal, KROSSVIL_STACK);
     good += measure("check_table", check_table, KROSSVIL_STACK);
+    good += measure("shorten", shorten, KROSSVIL_STACK);
+    short_len = krossvil_read(answer, 0);
+    good += measure("check_short", check_short, KROSSVIL_STACK);
+    good += measure("lengthen", lengthen, KROSSVIL_STACK);
     return good;
 }
 
@@ -132,6 +151,6 @@ int main(void)
     passed += measure("convert_table", convert_table, KROSSVIL_STACK);
     make_stamped();
     passed += measure("read_stamped", read_stamped, KROSSVIL_RUN_STACK);
-    printf("%d passed, %d failed\n", passed, 13 - passed);
-    return passed != 13;
+    printf("%d passed, %d failed\n", passed, 19 - passed);
+    return passed != 19;
 }

@@ -83,6 +83,8 @@ same 'the built-in run has the classroom table' crates/checkjournal/data/table.b
 same 'the built-in run has the classroom journal' crates/checkjournal/data/journal.bin examples/classroom/journal.bin
 same 'the changed verdict has the classroom table' examples/changed-verdict/table.bin examples/classroom/table.bin
 same 'the old table was converted to the classroom table' examples/idle-sets/table.bin examples/classroom/table.bin
+same 'the short journal has the classroom table' examples/short-journal/table.bin examples/classroom/table.bin
+same 'the short journal was made of the classroom journal' examples/short-journal/journal.bin examples/classroom/journal.bin
 
 # ---- The runs of the classroom table
 
@@ -111,6 +113,13 @@ fresh
 cp "$root/examples/short-clock/table.bin" .
 cp "$root/examples/short-clock/stamped.bin" journal.bin
 prints 'the short clock with its stamps: a change has four bytes of time' 'refused 21 at 4'
+
+# ---- A short journal
+
+fresh
+cp "$root/examples/short-journal/table.bin" .
+cp "$root/examples/short-journal/short.bin" journal.bin
+prints 'a short journal in the place of the journal' 'refused 21 at 0'
 
 # ---- Tables with timers
 

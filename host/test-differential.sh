@@ -18,7 +18,7 @@ fi
 cases=${1-100000}
 seed=${2-1}
 sanitized_cases=$((cases < 20000 ? cases : 20000))
-fault_cases=20000
+fault_cases=15000
 library=target/staticlib/libkrossvil.a
 out=target/host
 passed=0
@@ -97,7 +97,7 @@ fi
 called=("$library")
 if [ "$self" = yes ]; then
     called=("$out/differential-second.o")
-    for entry in check_table check_journal run reaction convert_table read_stamped; do
+    for entry in check_table check_journal run reaction convert_table read_stamped check_short shorten lengthen; do
         called+=("-Dkrossvil_$entry=second_$entry")
     done
 fi
@@ -117,10 +117,11 @@ hosts() { # FOLDER STATUS: on its table and stimulus the host prints its host.tx
 hosts examples/classroom 0
 hosts examples/gas-burner 1 # the calculator takes no timers
 
-rewrites() { # PROGRAM FILE LINE NEW: run on the file in its place, it gives the line and the bytes of NEW
-    local printed
+rewrites() { # 'PROGRAM WORDS' FILE LINE NEW: run with the words on the file in its place, it gives the line and the bytes of NEW
+    local printed words
+    read -ra words <<<"$1"
     cp "$2" "$out/file.bin"
-    printed=$("${run[@]}" "$out/$1" "$out/file.bin" "$out/file.bin")
+    printed=$("${run[@]}" "$out/${words[0]}" "${words[@]:1}" "$out/file.bin" "$out/file.bin")
     if [ "$printed" = "$3" ] && cmp "$out/file.bin" "$4"; then
         echo "$2: $printed"
         passed=$((passed + 1))
@@ -142,6 +143,17 @@ compile examples/unstamp.c "${called[@]}" "${link[@]}" -o "$out/unstamp" || stop
 rewrites unstamp examples/short-clock/stamped.bin 'bytes=123' examples/short-clock/journal.bin
 rewrites unstamp examples/short-clock/journal.bin 'refused 21 at 4' examples/short-clock/journal.bin
 rewrites unstamp examples/classroom/stimulus.bin 'refused 21 at 0' examples/classroom/stimulus.bin
+
+echo "== the example of short journals"
+compile examples/shorten.c "${called[@]}" "${link[@]}" -o "$out/shorten" || stop "did not build"
+shorten="shorten examples/short-journal/table.bin"
+{ head -c 63 examples/short-journal/short.bin; printf '\001'; tail -c +65 examples/short-journal/short.bin; } >"$out/changed.bin"
+rewrites "$shorten" examples/short-journal/journal.bin 'bytes=93' examples/short-journal/short.bin
+rewrites "$shorten" examples/short-journal/short.bin 'bytes=123' examples/short-journal/journal.bin
+rewrites "$shorten" examples/changed-verdict/journal.bin 'refused 28 at 76' examples/changed-verdict/journal.bin
+rewrites "$shorten" "$out/changed.bin" 'refused 28 at 58' "$out/changed.bin"
+rewrites "$shorten" examples/short-clock/stamped.bin 'refused 21 at 4' examples/short-clock/stamped.bin
+rewrites 'shorten examples/idle-sets/old-table.bin' examples/short-journal/short.bin 'refused 11 at 40' examples/short-journal/short.bin
 
 if [ "$self" = no ]; then
     echo "== the stack that the functions need"

@@ -1,6 +1,6 @@
 /*
- * krossvil: a table check, a journal check, a runtime, a reaction calculator, a converter of old tables and a reader of stamped
- * journals for polling controllers, for a host program in C.
+ * krossvil: a table check, a journal check, a runtime, a reaction calculator, a converter of old tables, a reader of stamped
+ * journals, and for short journals a check and the ways to and from journals; for polling controllers, and a host program in C.
  *
  * Link with libkrossvil.a (x86-64). The functions keep no state, allocate nothing, call only memcpy and memset, and never stop the program:
  * each ends with an answer on any bytes. How much stack they need is below; that is measured, not proved.
@@ -53,6 +53,17 @@
  *     14  3    tick: stamp, state afterwards
  *     1F  2    end: stamp
  *
+ *   Short journal, at most 65,536 bytes: a journal with tags of its own, in which two bytes stand in the place of each time, the gap.
+ *   A gap is the time since the record before; that of the first record is its time.
+ *     30  1    input at time 0
+ *     31  3    change: gap, new input
+ *     32  3    poll: gap, input polled
+ *     33  3    test: gap, verdict
+ *     34  3    tick: gap, state afterwards
+ *     3F  2    end: gap
+ *   With n records between opening and end a short journal has 9 + 6*n bytes, and the journal that it stands for 11 + 8*n. So one of
+ *   more than 49,152 bytes, with 8,191 records or more, stands for a journal that would be too long.
+ *
  * Refusals. A place is a byte offset, counted from 0, in the bytes that were turned down, save for 9, 10 and 14.
  *      1  table runs out before field 06, or 08, is complete      start of the field
  *      2  table field has the wrong tag or length                 start of the field
@@ -69,28 +80,31 @@
  *         an input at or above I                                  first such entry
  *     13  timer's length is 0 or too long                         first such entry
  *     14  calculator: the table has timers                        0
- *     19  journal, stimulus or stamped journal too long           0
+ *     19  journal of any kind, or stimulus, too long              0
  *     20  bytes run out before the end field is complete          start of the field
  *     21  unknown tag, or wrong length for the tag                start of the field
  *     22  first field is not the opening one, a second opening,
  *         or bytes after the end field                            start of the field or bytes
  *     23  time, input, verdict or state out of range              start of the field
- *     24  time earlier than the record before                     start of the field
+ *     24  time earlier than the record before; never in a short
+ *         journal                                                 start of the field
  *     25  later than cycle start + E                              start of the field
  *     26  record not allowed in this phase                        start of the field
  *     27  poll not later than last change, or than cycle start    start of the field
  *     28  polled input, verdict or state differs from the
  *         machine's                                               start of the field
- *     30  runtime, reader: buffer shorter than the journal;
- *         converter: buffer shorter than the table;
- *         any function with an answer: it is too short            0
+ *     30  buffer shorter than the journal, the short journal or
+ *         the table that is written; any function with an
+ *         answer: it is too short                                 0
+ *     34  lengthening: the journal would pass 65,536 bytes        0
  *
  * The table's refusals, 1 to 8 and 11 to 13, come before all others: field by field; in field 06 entry by entry, each for 7 and
  * then for 11; in field 07 timer by timer, each for 13 at its length and then for 12 at its region; 8 is the last of them. Then,
- * of a journal or a stimulus, 19, and field by field 20 to 28; of a stamped journal, which has no table, 19, and field by field 20
- * to 22; of the calculator, 14, 9 for the states, 9 for the inputs, 10. Then 30. The table check has no answer, and gives 1 to 8
- * and 11 to 13 only. The converter gives none of 11 to 14: it takes tables with holds only, and field 07 is 2 to it. 29, a journal
- * that would pass 65,536 bytes, is no longer given, since no run makes one; the number is not used again.
+ * of a journal, a stimulus or a short journal, 19, and field by field 20 to 28; of a stamped journal, which has no table, 19, and
+ * field by field 20 to 22; of the calculator, 14, 9 for the states, 9 for the inputs, 10. Then, of krossvil_lengthen, 34. Then 30.
+ * The table check has no answer, and gives 1 to 8 and 11 to 13 only. The converter gives none of 11 to 14: it takes tables with holds
+ * only, and field 07 is 2 to it. 29, a run's journal that would pass 65,536 bytes, is no longer given, since no run makes one; the
+ * number is not used again.
  */
 #ifndef KROSSVIL_H
 #define KROSSVIL_H
@@ -105,6 +119,7 @@ extern "C" {
 #define KROSSVIL_JOURNAL_MAX 65536u /* a journal buffer of this size is never too short (proved: no run makes more than 65,531) */
 #define KROSSVIL_STIMULUS_MAX 57344u
 #define KROSSVIL_STAMPED_MAX 49152u /* what is read from so many bytes has at most 65,531 */
+#define KROSSVIL_SHORT_MAX 65536u   /* what krossvil_shorten writes has at most 49,152: a buffer of so many is never too short */
 
 #define KROSSVIL_RUN_STACK 80000u /* bytes of stack that are enough for krossvil_run and krossvil_read_stamped */
 #define KROSSVIL_STACK 12000u     /* and for the other functions */
@@ -114,6 +129,9 @@ extern "C" {
 #define KROSSVIL_REACTION_ANSWER 8u /* reaction time, target set */
 #define KROSSVIL_CONVERT_ANSWER 4u  /* how many states have changed */
 #define KROSSVIL_STAMPED_ANSWER 4u  /* the journal's length in bytes */
+#define KROSSVIL_SHORT_ANSWER 28u   /* as that of a journal */
+#define KROSSVIL_SHORTEN_ANSWER 4u  /* the short journal's length in bytes */
+#define KROSSVIL_LENGTHEN_ANSWER 4u /* the journal's length in bytes */
 
 /* Does the table pass? There are no further numbers. */
 uint64_t krossvil_check_table(const uint8_t *table, size_t table_len);
@@ -148,6 +166,24 @@ uint64_t krossvil_convert_table(const uint8_t *table, size_t table_len, uint8_t 
  * carried over as they stand; krossvil_check_journal says whether the journal is a run. Answer, 4 bytes: the journal's length. */
 uint64_t krossvil_read_stamped(const uint8_t *stamped, size_t stamped_len, uint8_t *journal, size_t journal_len,
                                uint8_t *answer, size_t answer_len);
+
+/* Is the short journal a run of the table's machine? It is if the journal that it stands for is, were that ever so long; the answer, 28
+ * bytes, has the same numbers. A place is one in the short journal. */
+uint64_t krossvil_check_short(const uint8_t *table, size_t table_len, const uint8_t *short_journal, size_t short_len,
+                              uint8_t *answer, size_t answer_len);
+
+/* Check a journal, and write it as a short journal at the start of `short_journal`; the bytes past it are unchanged. What is not
+ * accepted is refused as krossvil_check_journal refuses it: only in a run is every gap known to fit. Answer, 4 bytes: the short
+ * journal's length. */
+uint64_t krossvil_shorten(const uint8_t *table, size_t table_len, const uint8_t *journal, size_t journal_len,
+                          uint8_t *short_journal, size_t short_len, uint8_t *answer, size_t answer_len);
+
+/* Check a short journal, and write the journal that it stands for at the start of `journal`; the bytes past it are unchanged. What is
+ * not accepted is refused as krossvil_check_short refuses it; then comes 34, if the journal would pass 65,536 bytes, then 30. What
+ * was shortened is lengthened to the same bytes, and what was lengthened is shortened to the same bytes. Answer, 4 bytes: the
+ * journal's length. */
+uint64_t krossvil_lengthen(const uint8_t *table, size_t table_len, const uint8_t *short_journal, size_t short_len,
+                           uint8_t *journal, size_t journal_len, uint8_t *answer, size_t answer_len);
 
 static inline uint32_t krossvil_number(uint64_t code) { return (uint32_t)(code >> 32); }
 

@@ -20,7 +20,7 @@ use Rattle.machine.specs.Most.{most}
 use Rattle.machine.specs.Run.{ticksOf, movesOf}
 use Rattle.machine.specs.Walk.{filled, walk, recordsRun, opened, runOver}
 use Rattle.journal.specs.Check as journal
-use Rattle.journal.specs.Check.{checkOf}
+use Rattle.journal.specs.Check.{checkIn}
 use Rattle.reaction.specs.Reaction.{nextSet, weightOf, reactionTime, firstFrom, firstLeaving, reactionOf, forHolds, reactOf}
 use Rattle.runtime.specs.Run.{madeOf, runOf}
 use Rattle.demands.specs.Cases.{CasesHold, Sizes}
@@ -29,7 +29,7 @@ pub cases-hold : CasesHold
 unfolding field fieldAt some setOf largest _or-else_ _and-then_ entriesFrom values tables.encode words named fieldAnswer rowAnswer below badWord setAnswer tagged timing
     countsAnswer boundAnswer holdsAnswer timingAnswer entriesAnswer answerBy timersIn tableWith underTable lengthFits knownIn knownWith openingIn openingWith recordOf
     ranged recordIn recordAt itemsFrom itemsOf bytesOf bytesFrom encode ruleBy strongest watch.largest rule verdict left regionsAfter stateAfter lastChange gate step ticksOf movesOf most filled walk
-    recordsRun opened runOver journal.answerOf checkOf nextSet weightOf reactionTime firstFrom firstLeaving reactionOf forHolds reactOf madeOf runOf answerIn
+    recordsRun opened runOver journal.answerOf checkIn nextSet weightOf reactionTime firstFrom firstLeaving reactionOf forHolds reactOf madeOf runOf answerIn
     bufferIn
 cases-hold = (refl, refl)
 

@@ -24,13 +24,18 @@ use Rattle.stamped.specs.declared.Answer as stamped′
 use Rattle.stamped.specs.declared.Answer.the-variants as stamped
 use Rattle.stamped.specs.Answer as stamped-answer
 use Rattle.stamped.specs.Stamped.{readOf}
+use Rattle.restate.specs.declared.Answer as restate′
+use Rattle.restate.specs.declared.Answer.the-variants as restated
+use Rattle.restate.specs.Answer as restate-answer
+use Rattle.restate.specs.Restate.{shortenOf, lengthenOf}
+use Rattle.krossvil.proofs.Accepting.{table-numbered, refusal-numbered}
 use Rattle.krossvil.proofs.Writers.{Gives}
 use Rattle.krossvil.proofs.Runs.{run-gives}
 use Rattle.krossvil.proofs.Converts.{convert-gives}
 use Rattle.krossvil.proofs.Stamps.{stamped-gives}
-use Rattle.krossvil.specs.Host.{told, codeOf, numberBytes, answerAfter, journalTold, bufferAfter, reactionTold}
+use Rattle.krossvil.proofs.Restates.{shorten-gives, lengthen-gives}
+use Rattle.krossvil.specs.Host.{told, codeOf, numberBytes, answerAfter, journalTold, shortTold, bufferAfter, reactionTold}
 use Rattle.laws.proofs.Never28.{never-differs}
-use Rattle.demands.proofs.Numbered.{table-numbered, refusal-numbered}
 use Rattle.demands.specs.Contracts.{EveryEntryDetermines, EveryRefusalKeeps, RunNeverDiffers}
 
 -- ---- Where the host is not told 0
@@ -91,7 +96,7 @@ made-kept replyOf short k (Made′.made a bytes) (values, few, gave) buffer othe
     go true h = refl
     go false h = absurd (h (ap numberIn gave))
 
--- ---- The converter, and the reader of stamped journals
+-- ---- The converters, and the reader of stamped journals
 
 convert-numbered : (a : convert′.Answer) → Numbered (convert-answer.replyOf a)
 convert-numbered (done.Converted changed) = tt
@@ -103,6 +108,14 @@ stamped-numbered (stamped.Written size) = tt
 stamped-numbered stamped.TooLong = refl
 stamped-numbered (stamped.Refused refusal place) = refusal-numbered refusal
 stamped-numbered stamped.BufferTooShort = refl
+
+restated-numbered : (a : restate′.Answer) → Numbered (restate-answer.replyOf a)
+restated-numbered (restated.Written size) = tt
+restated-numbered (restated.TableRefused answer) = table-fine answer
+restated-numbered restated.TooLong = refl
+restated-numbered (restated.Refused refusal place) = refusal-numbered refusal
+restated-numbered restated.OldFormTooLong = refl
+restated-numbered restated.BufferTooShort = refl
 
 -- ---- The entries
 
@@ -123,6 +136,18 @@ every-entry-determines = (
   record { asks-nothing = λ κs a. tt; one-outcome = λ κs a r r′ s s′ p p′. (p .0 ∙ sym (p′ .0), one (p .1 ∙ sym (p′ .1))) },
   record { asks-nothing = λ κs a. tt; one-outcome = λ κs a r r′ s s′ p p′. (p ∙ sym p′, refl) },
   record { asks-nothing = λ κs a. tt; one-outcome = λ κs a r r′ s s′ p p′. (p .0 ∙ sym (p′ .0), one (p .1 ∙ sym (p′ .1))) },
+  record { asks-nothing = λ κs a. tt; one-outcome = λ κs a r r′ s s′ p p′. (p .0 ∙ sym (p′ .0), one (p .1 ∙ sym (p′ .1))) },
+  record { asks-nothing = λ κs a. tt; one-outcome = λ κs a r r′ s s′ p p′. (p ∙ sym p′, refl) },
+  record { asks-nothing = λ κs a. tt; one-outcome = λ κs a r r′ s s′ p p′. (p .0 ∙ sym (p′ .0), one (p .1 ∙ sym (p′ .1))) },
+  record {
+    asks-nothing = λ κs a. tt;
+    one-outcome = λ κs a r r′ s s′ p p′. (p .0 ∙ sym (p′ .0), two (p .1 .1 ∙ sym (p′ .1 .1)) (p .1 .0 ∙ sym (p′ .1 .0)));
+  },
+  record { asks-nothing = λ κs a. tt; one-outcome = λ κs a r r′ s s′ p p′. (p .0 ∙ sym (p′ .0), one (p .1 ∙ sym (p′ .1))) },
+  record {
+    asks-nothing = λ κs a. tt;
+    one-outcome = λ κs a r r′ s s′ p p′. (p .0 ∙ sym (p′ .0), two (p .1 .1 ∙ sym (p′ .1 .1)) (p .1 .0 ∙ sym (p′ .1 .0)));
+  },
   record {
     asks-nothing = λ κs a. tt;
     one-outcome = λ κs a r r′ s s′ p p′. (p .0 ∙ sym (p′ .0), two (p .1 .1 ∙ sym (p′ .1 .1)) (p .1 .0 ∙ sym (p′ .1 .0)));
@@ -150,6 +175,12 @@ every-refusal-keeps = (
       one (p .1 ∙ made-kept stamped-answer.replyOf stamped.BufferTooShort 1 (readOf (now (a .0))) (stamped-gives (now (a .0))) (now (a .1 .0))
       (λ e. other (ap (λ x. numberIn (stamped-answer.replyOf x)) (p .0) ∙ e))),
   λ κs a r s p other.
+      one (p .1 ∙ made-kept restate-answer.replyOf restated.BufferTooShort 1 (shortenOf (now (a .0)) (now (a .1 .0))) (shorten-gives (now (a .0)) (now (a .1 .0)))
+      (now (a .1 .1 .0)) (λ e. other (ap (λ x. numberIn (restate-answer.replyOf x)) (p .0) ∙ e))),
+  λ κs a r s p other.
+      one (p .1 ∙ made-kept restate-answer.replyOf restated.BufferTooShort 1 (lengthenOf (now (a .0)) (now (a .1 .0))) (lengthen-gives (now (a .0)) (now (a .1 .0)))
+      (now (a .1 .1 .0)) (λ e. other (ap (λ x. numberIn (restate-answer.replyOf x)) (p .0) ∙ e))),
+  λ κs a r s p other.
       let answer = now (a .1 .1 .0) in
       one (p .1 ∙ answer-kept (journalTold (now (a .0)) (now (a .1 .0)) (length answer)) answer (λ e. other (p .0 ∙ e))),
   λ κs a r s p other.
@@ -170,6 +201,21 @@ every-refusal-keeps = (
       let told-as = answerIn stamped.BufferTooShort (readOf (now (a .0))) (length buffer) in
       both-kept (stamped-answer.replyOf told-as) (stamped-numbered told-as)
       (bufferIn (readOf (now (a .0))) buffer) buffer (now (a .1 .1 .0)) _ (p .1 .1) _ (p .1 .0) (λ e. other (p .0 ∙ e)),
+  λ κs a r s p other.
+      let answer = now (a .1 .1 .0) in
+      one (p .1 ∙ answer-kept (shortTold (now (a .0)) (now (a .1 .0)) (length answer)) answer (λ e. other (p .0 ∙ e))),
+  λ κs a r s p other.
+      let buffer = now (a .1 .1 .0) in
+      let made-is = shortenOf (now (a .0)) (now (a .1 .0)) in
+      let told-as = answerIn restated.BufferTooShort made-is (length buffer) in
+      both-kept (restate-answer.replyOf told-as) (restated-numbered told-as)
+      (bufferIn made-is buffer) buffer (now (a .1 .1 .1 .0)) _ (p .1 .1) _ (p .1 .0) (λ e. other (p .0 ∙ e)),
+  λ κs a r s p other.
+      let buffer = now (a .1 .1 .0) in
+      let made-is = lengthenOf (now (a .0)) (now (a .1 .0)) in
+      let told-as = answerIn restated.BufferTooShort made-is (length buffer) in
+      both-kept (restate-answer.replyOf told-as) (restated-numbered told-as)
+      (bufferIn made-is buffer) buffer (now (a .1 .1 .1 .0)) _ (p .1 .1) _ (p .1 .0) (λ e. other (p .0 ∙ e)),
 )
 
 pub run-never-differs : RunNeverDiffers

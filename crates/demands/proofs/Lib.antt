@@ -1,5 +1,4 @@
 pub mod Demands
-pub mod Numbered
 pub mod Contracts
 pub mod Host
 pub mod Cases

@@ -25,6 +25,13 @@ use Rattle.convert.proofs.convert.Reads as convert
 use Rattle.stamped.specs.Answer as stamped-answer
 use Rattle.stamped.proofs.read.Kinds as stamped-kinds
 use Rattle.stamped.proofs.read.Reads as stamped
+use Rattle.shorts.proofs.check.Kinds as short-kinds
+use Rattle.shorts.proofs.check.Reads as short
+use Rattle.restate.specs.Answer as restate-answer
+use Rattle.restate.proofs.shorten.Kinds as shorten-kinds
+use Rattle.restate.proofs.shorten.Reads as shorten
+use Rattle.restate.proofs.lengthen.Kinds as lengthen-kinds
+use Rattle.restate.proofs.lengthen.Reads as lengthen
 use Rattle.krossvil.proofs.krossvil_check_table.Kinds as c-table-kinds
 use Rattle.krossvil.proofs.krossvil_check_table.Reads as c-table
 use Rattle.krossvil.proofs.krossvil_check_journal.Kinds as c-journal-kinds
@@ -37,6 +44,12 @@ use Rattle.krossvil.proofs.krossvil_convert_table.Kinds as c-convert-kinds
 use Rattle.krossvil.proofs.krossvil_convert_table.Reads as c-convert
 use Rattle.krossvil.proofs.krossvil_read_stamped.Kinds as c-stamped-kinds
 use Rattle.krossvil.proofs.krossvil_read_stamped.Reads as c-stamped
+use Rattle.krossvil.proofs.krossvil_check_short.Kinds as c-short-kinds
+use Rattle.krossvil.proofs.krossvil_check_short.Reads as c-short
+use Rattle.krossvil.proofs.krossvil_shorten.Kinds as c-shorten-kinds
+use Rattle.krossvil.proofs.krossvil_shorten.Reads as c-shorten
+use Rattle.krossvil.proofs.krossvil_lengthen.Kinds as c-lengthen-kinds
+use Rattle.krossvil.proofs.krossvil_lengthen.Reads as c-lengthen
 
 -- A contract, and the bytes of the slices that are lent to be written, as they were and as they are left.
 pub record Contract : Type 1 where
@@ -80,6 +93,15 @@ converter = entry 2 convert-kinds.ps convert-kinds.r convert.Pre convert.Post (�
 abbrev pub stampedReader : Contract
 stampedReader = entry 2 stamped-kinds.ps stamped-kinds.r stamped.Pre stamped.Post (λ κs a. now (a .1 .0) ∷ []) (λ κs s. now (s .1 .0) ∷ [])
 
+abbrev pub shortCheck : Contract
+shortCheck = entry 2 short-kinds.ps short-kinds.r short.Pre short.Post (λ κs a. []) (λ κs s. [])
+
+abbrev pub shortener : Contract
+shortener = entry 3 shorten-kinds.ps shorten-kinds.r shorten.Pre shorten.Post (λ κs a. now (a .1 .1 .0) ∷ []) (λ κs s. now (s .1 .1 .0) ∷ [])
+
+abbrev pub lengthener : Contract
+lengthener = entry 3 lengthen-kinds.ps lengthen-kinds.r lengthen.Pre lengthen.Post (λ κs a. now (a .1 .1 .0) ∷ []) (λ κs s. now (s .1 .1 .0) ∷ [])
+
 abbrev pub tableInC : Contract
 tableInC = entry 1 c-table-kinds.ps c-table-kinds.r c-table.Pre c-table.Post (λ κs a. []) (λ κs s. [])
 
@@ -106,6 +128,19 @@ stampedInC =
     entry 3 c-stamped-kinds.ps c-stamped-kinds.r c-stamped.Pre c-stamped.Post
     (λ κs a. now (a .1 .0) ∷ now (a .1 .1 .0) ∷ []) (λ κs s. now (s .1 .0) ∷ now (s .1 .1 .0) ∷ [])
 
+abbrev pub shortInC : Contract
+shortInC = entry 3 c-short-kinds.ps c-short-kinds.r c-short.Pre c-short.Post (λ κs a. now (a .1 .1 .0) ∷ []) (λ κs s. now (s .1 .1 .0) ∷ [])
+
+abbrev pub shortenerInC : Contract
+shortenerInC =
+    entry 4 c-shorten-kinds.ps c-shorten-kinds.r c-shorten.Pre c-shorten.Post
+    (λ κs a. now (a .1 .1 .0) ∷ now (a .1 .1 .1 .0) ∷ []) (λ κs s. now (s .1 .1 .0) ∷ now (s .1 .1 .1 .0) ∷ [])
+
+abbrev pub lengthenerInC : Contract
+lengthenerInC =
+    entry 4 c-lengthen-kinds.ps c-lengthen-kinds.r c-lengthen.Pre c-lengthen.Post
+    (λ κs a. now (a .1 .1 .0) ∷ now (a .1 .1 .1 .0) ∷ []) (λ κs s. now (s .1 .1 .0) ∷ now (s .1 .1 .1 .0) ∷ [])
+
 -- ---- Every answer is determined
 
 -- The contract asks nothing and allows one outcome: the result, and every lent byte.
@@ -117,9 +152,9 @@ pub record Determines (C : Contract) : Type 0 where
 abbrev pub EveryEntryDetermines : Type 0
 EveryEntryDetermines =
     Determines tableCheck × Determines journalCheck × Determines runtimeRun × Determines reactionReact × Determines converter
-    × Determines stampedReader
+    × Determines stampedReader × Determines shortCheck × Determines shortener × Determines lengthener
     × Determines tableInC × Determines journalInC × Determines runInC × Determines reactionInC × Determines converterInC
-    × Determines stampedInC
+    × Determines stampedInC × Determines shortInC × Determines shortenerInC × Determines lengthenerInC
 
 -- ---- A refusal changes no lent byte
 
@@ -131,8 +166,10 @@ abbrev pub EveryRefusalKeeps : Type 0
 EveryRefusalKeeps =
     RefusalKeeps runtimeRun (λ κs r. numberIn (replyOf r)) × RefusalKeeps converter (λ κs r. numberIn (convert-answer.replyOf r))
     × RefusalKeeps stampedReader (λ κs r. numberIn (stamped-answer.replyOf r))
+    × RefusalKeeps shortener (λ κs r. numberIn (restate-answer.replyOf r)) × RefusalKeeps lengthener (λ κs r. numberIn (restate-answer.replyOf r))
     × RefusalKeeps journalInC (λ κs r. r) × RefusalKeeps runInC (λ κs r. r) × RefusalKeeps reactionInC (λ κs r. r)
     × RefusalKeeps converterInC (λ κs r. r) × RefusalKeeps stampedInC (λ κs r. r)
+    × RefusalKeeps shortInC (λ κs r. r) × RefusalKeeps shortenerInC (λ κs r. r) × RefusalKeeps lengthenerInC (λ κs r. r)
 
 -- ---- The runtime never gives 28
 

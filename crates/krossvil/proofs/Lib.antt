@@ -2,6 +2,9 @@ pub mod TablePlaces
 pub mod Places
 pub mod Outcomes
 pub mod Writers
+pub mod Lengths
 pub mod Runs
 pub mod Converts
 pub mod Stamps
+pub mod Accepting
+pub mod Restates

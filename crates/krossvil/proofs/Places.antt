@@ -22,7 +22,7 @@ use Rattle.records.specs.declared.Refusal.the-variants.{RunsOut, UnknownField, 
 use Rattle.records.specs.declared.Opening.{Opening}
 use Rattle.records.specs.declared.Opening.the-variants as opening
 use Rattle.records.specs.Refusal.{numberOf}
-use Rattle.records.specs.Form.{Form, journal, stimulus, longestJournal}
+use Rattle.records.specs.Form.{Form, journal, stimulus, short, longestJournal}
 use Rattle.records.specs.Reading.{Items, item, done, broken, openingOf, itemsOf}
 use Rattle.records.proofs.Places.{Within, items-within}
 use Rattle.machine.specs.declared.Machine.{Machine}
@@ -31,7 +31,7 @@ use Rattle.machine.specs.declared.Step.the-variants as step
 use Rattle.machine.specs.Machine.{start, step}
 use Rattle.machine.specs.Walk.{inTable, completed, Walk, ended, stopped, took, onwards, walk, Run, ran, tooLong, refused, ranFrom, recordsRun, opened, runOver}
 use Rattle.journal.specs.Answer as journal′
-use Rattle.journal.specs.Check.{answerOf, answerIn, checkOf}
+use Rattle.journal.specs.Check.{answerOf, answerIn, checkIn, checkOf, checkShortOf}
 use Rattle.journal.specs.declared.Answer.the-variants as checked
 use Rattle.runtime.specs.declared.Answer as runtime′
 use Rattle.runtime.specs.declared.Answer.the-variants as made
@@ -45,7 +45,7 @@ use Rattle.reaction.specs.Reaction.{firstLeaving, reactionTime, nextSet, forHol
 use Rattle.krossvil.specs.Small.{Fits, LengthFits}
 use Rattle.krossvil.proofs.TablePlaces.{table-none, table-fits}
 
-pub refusal-small : (x : Refusal) → numberOf x ≤ 30
+pub refusal-small : (x : Refusal) → numberOf x ≤ 35
 refusal-small RunsOut = omega arith
 refusal-small UnknownField = omega arith
 refusal-small Misplaced = omega arith
@@ -76,12 +76,12 @@ walk-by limit F t m (item place r rest) (low, more) = taken (step t m (completed
 walk-by limit F t m done w = tt
 walk-by limit F t m (broken refusal place) w = w .1
 
-abbrev RunBy : Run → Type 0
+abbrev pub RunBy : Run → Type 0
 RunBy (ran input taken last) = Unit
 RunBy tooLong = Unit
 RunBy (refused refusal place) = place ≤ 1000000
 
-run-by : (F : Form) → F .most ≤ longestJournal → (t : Table) (s : List ℕ) → RunBy (runOver F t s)
+pub run-by : (F : Form) → F .most ≤ longestJournal → (t : Table) (s : List ℕ) → RunBy (runOver F t s)
 unfolding runOver opened recordsRun itemsOf
 run-by F few t s = go (F .most <? length s) refl
   where
@@ -102,24 +102,30 @@ run-by F few t s = go (F .most <? length s) refl
 
 -- ---- The entries
 
-pub journal-fits : (table s : List ℕ) → Fits (journal′.replyOf (checkOf table s))
-unfolding checkOf answerOf
-journal-fits table s =
-    under-either checked.TableRefused (λ t. answerIn journal t s) table (λ a. Fits (journal′.replyOf a)) (λ e. under (tableIn table)) (table-fits false table)
+pub checked-fits : (F : Form) → F .most ≤ longestJournal → (table s : List ℕ) → Fits (journal′.replyOf (checkIn F table s))
+unfolding checkIn answerOf
+checked-fits F few table s =
+    under-either checked.TableRefused (λ t. answerIn F t s) table (λ a. Fits (journal′.replyOf a)) (λ e. under (tableIn table)) (table-fits false table)
   where
     answered : (t : Table) (r : Run) → RunBy r → Fits (journal′.replyOf (answerOf t r))
     answered t (ran input taken last) h = record { number = omega arith; place = omega arith }
     answered t tooLong h = record { number = omega arith; place = omega arith }
     answered t (refused refusal place) h = record { number = refusal-small refusal; place = omega arith }
 
-    under : (t : Table) → Fits (journal′.replyOf (answerIn journal t s))
-    under t = answered t (runOver journal t s) (run-by journal (omega arith) t s)
+    under : (t : Table) → Fits (journal′.replyOf (answerIn F t s))
+    under t = answered t (runOver F t s) (run-by F few t s)
+
+pub journal-fits : (table s : List ℕ) → Fits (journal′.replyOf (checkOf table s))
+journal-fits table s = checked-fits journal (omega arith) table s
+
+pub short-fits : (table s : List ℕ) → Fits (journal′.replyOf (checkShortOf table s))
+short-fits table s = checked-fits short (omega arith) table s
 
 -- A journal's length fits too.
 abbrev RunFits : runtime′.Answer → Type 0
 RunFits a = LengthFits (runtime.replyOf a)
 
-pub small : (reply : Reply) → numberIn reply ≤ 30 → placeIn reply ≤ 1000000 → valuesIn reply ≡ [] → LengthFits reply
+pub small : (reply : Reply) → numberIn reply ≤ 35 → placeIn reply ≤ 1000000 → valuesIn reply ≡ [] → LengthFits reply
 small reply n p none = (record { number = n; place = omega arith }, rw none (omega arith))
 
 made-fits : (t : Table) (s : List ℕ) → RunFits (answerMade (madeUnder t s))

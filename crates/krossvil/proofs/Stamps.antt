@@ -10,9 +10,8 @@ use denote.Enum.Declared.{tagOf}
 use lib.ListN.{length}
 use Rattle.wire.specs.Choice.{_<?_, if_then_else_}
 use Rattle.wire.specs.Made as made
-use Rattle.wire.specs.Made.{Made, answerIn, bufferIn}
+use Rattle.wire.specs.Made.{answerIn, bufferIn}
 use Rattle.wire.specs.Reply.{valuesIn}
-use Rattle.wire.proofs.Made.{answerMade, answer-either}
 use Rattle.records.specs.declared.Record.{Record}
 use Rattle.records.specs.declared.Opening.{Opening}
 use Rattle.records.specs.declared.Opening.the-variants as opening
@@ -27,7 +26,8 @@ use Rattle.stamped.proofs.Answer as AnswerT
 use Rattle.stamped.proofs.Lengths.{Short, read-short}
 use Rattle.krossvil.specs.Small.{LengthFits}
 use Rattle.krossvil.proofs.Places.{refusal-small, small}
-use Rattle.krossvil.proofs.Writers.{Writes, Gives, made-writes}
+use Rattle.krossvil.proofs.Writers.{Writes, Gives}
+use Rattle.krossvil.proofs.Lengths.{TellsLength, length-gives, length-writes, length-fits}
 
 pub stamped-none : (a : Answer) → OneOf (1 ∷ 2 ∷ 3 ∷ []) (tagOf AnswerT.the-type a) → valuesIn (replyOf a) ≡ []
 stamped-none (Written size) h = absurd (miss (1 ∷ 2 ∷ 3 ∷ []) 0 tt h)
@@ -53,44 +53,30 @@ list-by limit (broken refusal place) w = w .1
 
 -- ---- What is told
 
--- Bytes come with their length; a refusal has a place that fits.
-abbrev Tells : Made Answer → Type 0
-Tells (made.refused a) = LengthFits (replyOf a)
-Tells (made.made a bytes) = a ≡ Written (length bytes)
-
-tells : (s : List ℕ) → Tells (readOf s)
+tells : (s : List ℕ) → TellsLength replyOf (readOf s)
 unfolding readOf opened madeOf itemsOf
-tells s = sized (longestStamped <? length s) refl
+tells s = sized (longestStamped <? length s) refl (read-short s)
   where
-    of-list : (input : ℕ) (l : Listed) → StopsBy 1000000 l → Tells (madeOf input l)
-    of-list input (listed rs) h = refl
-    of-list input (stopped refusal place) h = small (replyOf (Refused refusal place)) (refusal-small refusal) h refl
+    of-list : (input : ℕ) (l : Listed) → StopsBy 1000000 l → Short (madeOf input l) → TellsLength replyOf (madeOf input l)
+    of-list input (listed rs) h few = (refl, omega (arith, few))
+    of-list input (stopped refusal place) h few = small (replyOf (Refused refusal place)) (refusal-small refusal) h refl
 
-    of-opening : length s ≤ longestStamped → (o : Opening) → Tells (opened s o)
-    of-opening short (opening.Refused refusal) = small (replyOf (Refused refusal 0)) (refusal-small refusal) (omega arith) refl
-    of-opening short (opening.Input input) =
+    of-opening : length s ≤ longestStamped → (o : Opening) → Short (opened s o) → TellsLength replyOf (opened s o)
+    of-opening short (opening.Refused refusal) few = small (replyOf (Refused refusal 0)) (refusal-small refusal) (omega arith) refl
+    of-opening short (opening.Input input) few =
         let within = items-within stamped anyRecord s 1000000 (suc (length s)) 4 0 (omega arith) in
-        of-list input (listOf (itemsOf stamped anyRecord s)) (list-by 1000000 (itemsOf stamped anyRecord s) within)
+        of-list input (listOf (itemsOf stamped anyRecord s)) (list-by 1000000 (itemsOf stamped anyRecord s) within) few
 
-    sized : (b : Bool) → (longestStamped <? length s) ≡ b → Tells (if b then made.refused TooLong else opened s (openingOf stamped 256 s))
-    sized true h = small (replyOf TooLong) (omega arith) (omega arith) refl
-    sized false h = of-opening (ltb-false longestStamped (length s) h) (openingOf stamped 256 s)
+    sized : (b : Bool) → (longestStamped <? length s) ≡ b → Short (if b then made.refused TooLong else opened s (openingOf stamped 256 s)) →
+        TellsLength replyOf (if b then made.refused TooLong else opened s (openingOf stamped 256 s))
+    sized true h few = small (replyOf TooLong) (omega arith) (omega arith) refl
+    sized false h few = of-opening (ltb-false longestStamped (length s) h) (openingOf stamped 256 s) few
 
 pub stamped-gives : (s : List ℕ) → Gives replyOf 1 (readOf s)
-stamped-gives s = go (readOf s) (tells s)
-  where
-    go : (m : Made Answer) → Tells m → Gives replyOf 1 m
-    go (made.refused a) h = tt
-    go (made.made a bytes) h = (length bytes ∷ [], refl, rw h refl)
+stamped-gives s = length-gives replyOf (readOf s) (tells s)
 
 pub stamped-writes : (s : List ℕ) → Writes 1 (λ room. replyOf (answerIn BufferTooShort (readOf s) room)) (bufferIn (readOf s))
-stamped-writes s = made-writes replyOf BufferTooShort refl 1 (readOf s) (stamped-gives s)
+stamped-writes s = length-writes replyOf BufferTooShort refl (readOf s) (tells s)
 
 pub stamped-fits : (s : List ℕ) (room : ℕ) (a : Answer) → a ≡ answerIn BufferTooShort (readOf s) room → LengthFits (replyOf a)
-stamped-fits s room a is =
-    rw is (answer-either (λ x. LengthFits (replyOf x)) BufferTooShort (small (replyOf BufferTooShort) (omega arith) (omega arith) refl) (readOf s)
-    (go (readOf s) (tells s) (read-short s)) room)
-  where
-    go : (m : Made Answer) → Tells m → Short m → LengthFits (replyOf (answerMade m))
-    go (made.refused a) h short = h
-    go (made.made a bytes) h short = rw h (record { number = omega arith; place = omega arith }, omega arith)
+stamped-fits s room a is = length-fits replyOf BufferTooShort refl (readOf s) (tells s) room a is

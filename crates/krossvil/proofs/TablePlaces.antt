@@ -33,7 +33,7 @@ table-none a = decided a (λ e. rw e) (λ r other. refusal-none (replyOf a) r)
 
 -- A table has fewer than 2,000 bytes up to its last entry.
 record By (a : Answer) : Type 0 where
-  number : numberIn (replyOf a) ≤ 30
+  number : numberIn (replyOf a) ≤ 35
   place : placeIn (replyOf a) ≤ 2000
 
 passing : By verdict.Passes

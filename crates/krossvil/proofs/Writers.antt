@@ -1,6 +1,6 @@
 -- What an entry owes the host that writes to a buffer beside the answer.
 use mathlib.Core.Path.{_≡_, refl, sym, ap, _∙_}
-use mathlib.Core.List.{List}
+use mathlib.Core.List.{List, []}
 use mathlib.Core.Bool.{Bool, true, false}
 use Prim.Native.Nat.{ℕ, _*_, _<_, _≤_}
 use native.Mathlib.Omega.{arith}
@@ -8,9 +8,9 @@ use borrow.Author.Tests.{lt-ltb, le-ltb, ltb-true}
 use lib.ListN.{length}
 use Rattle.wire.specs.Choice.{_<?_, _=?_, if_then_else_}
 use Rattle.wire.specs.Made.{Made, refused, made, answerIn, bufferIn}
-use Rattle.wire.specs.Reply.{Reply, gives, refuses, numberIn}
+use Rattle.wire.specs.Reply.{Reply, gives, refuses, numberIn, placeIn, valuesIn}
 use Rattle.krossvil.specs.Host.{told, codeOf, answerAfter, bufferAfter}
-use Rattle.krossvil.proofs.Outcomes.{Owed, told-fits}
+use Rattle.krossvil.proofs.Outcomes.{Owed, owed-none, told-fits}
 
 -- The reply with room for so many bytes, and what becomes of the buffer: a refusal whatever the room, or bytes, for which 30 comes
 -- last, with k numbers.
@@ -86,6 +86,15 @@ module _ (k : ℕ) (replyIn : ℕ → Reply) (written : List ℕ → List ℕ) (
       let same = any-room w short buffer room in
       let told-same = ap (λ x. told x (length answer)) is ∙ same .0 in
       (owed .0 ∙ ap codeOf told-same, (owed .1 ∙ ap (λ x. answerAfter x answer) told-same, same .1))
+
+-- ---- A refusal that has no numbers, whatever the room
+
+pub refused-owed : (replyIn : ℕ → Reply) (written : List ℕ → List ℕ) (buffer answer : List ℕ) (reply : Reply) → replyIn (length buffer) ≡ reply →
+    valuesIn reply ≡ [] → written buffer ≡ buffer → (room code : ℕ) → code ≡ codeOf (told reply room) → WriteOwed replyIn written buffer answer code answer buffer
+refused-owed replyIn written buffer answer reply is none same room code e =
+    let first = told-fits reply room (rw none (omega arith)) in
+    let owed = owed-none reply none (numberIn reply) (placeIn reply) refl refl answer code (e ∙ ap codeOf first) in
+    rw is (owed .0, (owed .1, no-change _ buffer (written buffer) same))
 
 -- ---- What was made
 

@@ -7,7 +7,7 @@ use Rattle.wire.specs.Encode.{bytes32}
 use Rattle.wire.specs.Made.{answerIn, bufferIn}
 use Rattle.wire.specs.Reply.{Reply, refuses, numberIn, placeIn, valuesIn}
 use Rattle.journal.specs.Answer as journal
-use Rattle.journal.specs.Check.{checkOf}
+use Rattle.journal.specs.Check.{checkOf, checkShortOf}
 use Rattle.runtime.specs.Answer as runtime
 use Rattle.runtime.specs.Run.{runOf, answerOf}
 use Rattle.convert.specs.declared.Answer.the-variants.{BufferTooShort}
@@ -16,6 +16,9 @@ use Rattle.convert.specs.Convert as convert′
 use Rattle.stamped.specs.declared.Answer.the-variants as stamped′
 use Rattle.stamped.specs.Answer as stamped
 use Rattle.stamped.specs.Stamped.{readOf}
+use Rattle.restate.specs.declared.Answer.the-variants as restate′
+use Rattle.restate.specs.Answer as restate
+use Rattle.restate.specs.Restate.{shortenOf, lengthenOf}
 use Rattle.reaction.specs.Answer as reaction
 use Rattle.reaction.specs.Reaction.{reactOf}
 
@@ -48,6 +51,9 @@ bufferAfter reply written buffer = if numberIn reply =? 0 then written else buff
 abbrev pub journalTold : List ℕ → List ℕ → ℕ → Reply
 journalTold table records room = told (journal.replyOf (checkOf table records)) room
 
+abbrev pub shortTold : List ℕ → List ℕ → ℕ → Reply
+shortTold table records room = told (journal.replyOf (checkShortOf table records)) room
+
 -- With a journal buffer and room for the answer.
 abbrev pub runTold : List ℕ → List ℕ → List ℕ → ℕ → Reply
 runTold table stimulus buffer room = told (runtime.replyOf (answerOf (runOf table stimulus) (length buffer))) room
@@ -69,3 +75,15 @@ stampedTold bytes buffer room = told (stamped.replyOf (answerIn stamped′.Buffe
 
 abbrev pub stampedJournal : List ℕ → List ℕ → ℕ → List ℕ
 stampedJournal bytes buffer room = bufferAfter (stampedTold bytes buffer room) (bufferIn (readOf bytes) buffer) buffer
+
+abbrev pub shortenTold : List ℕ → List ℕ → List ℕ → ℕ → Reply
+shortenTold table bytes buffer room = told (restate.replyOf (answerIn restate′.BufferTooShort (shortenOf table bytes) (length buffer))) room
+
+abbrev pub shortenedJournal : List ℕ → List ℕ → List ℕ → ℕ → List ℕ
+shortenedJournal table bytes buffer room = bufferAfter (shortenTold table bytes buffer room) (bufferIn (shortenOf table bytes) buffer) buffer
+
+abbrev pub lengthenTold : List ℕ → List ℕ → List ℕ → ℕ → Reply
+lengthenTold table bytes buffer room = told (restate.replyOf (answerIn restate′.BufferTooShort (lengthenOf table bytes) (length buffer))) room
+
+abbrev pub lengthenedJournal : List ℕ → List ℕ → List ℕ → ℕ → List ℕ
+lengthenedJournal table bytes buffer room = bufferAfter (lengthenTold table bytes buffer room) (bufferIn (lengthenOf table bytes) buffer) buffer

@@ -5,7 +5,7 @@ use Rattle.wire.specs.Reply.{Reply, numberIn, placeIn, valuesIn}
 use Rattle.records.specs.Form.{longestJournal}
 
 pub record Fits (reply : Reply) : Type 0 where
-  pub number : numberIn reply ≤ 30
+  pub number : numberIn reply ≤ 35
   pub place : placeIn reply < 2 ^ 32
 
 -- The same of a reply whose one number is a journal's length.

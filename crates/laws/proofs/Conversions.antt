@@ -30,7 +30,7 @@ use Rattle.convert.specs.Convert.{newSet, change, withSets, emptied, total, byS
 use Rattle.convert.proofs.Converting.{is-made, new-length}
 use Rattle.records.specs.Form as form
 use Rattle.journal.specs.Check as journal
-use Rattle.journal.specs.Check.{checkOf}
+use Rattle.journal.specs.Check.{checkIn, checkOf}
 use Rattle.reaction.specs.Reaction.{reactionOf, reactOf}
 use Rattle.reaction.proofs.Entry.{has-holds}
 use Rattle.runtime.specs.Run as run
@@ -211,7 +211,7 @@ unfolding emptied
 no-timers-emptied t = refl
 
 pub converts-faithfully : ConvertsFaithfully
-unfolding checkOf runOf reactOf
+unfolding checkIn runOf reactOf
 converts-faithfully old buffer changed c =
     let done = succeeded old buffer changed (c .succeeds) in
     let passes = done .0 in

@@ -27,7 +27,7 @@ use Rattle.machine.specs.Walk.{Run, ran, tooLong, refused, runOver}
 use Rattle.machine.proofs.Counts.{ticks-more}
 use Rattle.journal.specs.declared.Numbers.{Numbers}
 use Rattle.journal.specs.declared.Answer.the-variants.{Accepted, TableRefused}
-use Rattle.journal.specs.Check.{numbersOf, answerOf, answerIn, checkOf}
+use Rattle.journal.specs.Check.{checkIn, numbersOf, answerOf, answerIn, checkOf}
 use Rattle.machine.specs.RunsOver.{RunsOver}
 use Rattle.laws.specs.Journals.{AcceptedRun, AcceptsExactly, ChecksExactly}
 use Rattle.laws.proofs.Tables.{passes-exactly, holds-that-table}
@@ -116,13 +116,13 @@ accepts-exactly F valued tells t s bytes n = (accepted-run F valued t s n tells 
 
 module _ (table s : List ℕ) where
   pub under : (t : Table) → WellFormed t → table ≡ tables.encode t → answerIn journal t s ≡ checkOf table s
-  unfolding checkOf
+  unfolding checkIn
   under t ok is =
       let h = holds-that-table table t ok is in
       sym (under-passes TableRefused (λ x. answerIn journal x s) table (h .0) ∙ ap (λ x. answerIn journal x s) (h .1))
 
   table-passes : (n : Numbers) → checkOf table s ≡ Accepted n → tableAnswer table ≡ Passes
-  unfolding checkOf
+  unfolding checkIn
   table-passes n e = under-passed TableRefused (λ x. answerIn journal x s) table _ (λ a f. apart cc) e
 
 pub checks-exactly : ChecksExactly

@@ -11,3 +11,4 @@ pub mod Emptied
 pub mod Conversions
 pub mod Timers
 pub mod Stamps
+pub mod Shorts

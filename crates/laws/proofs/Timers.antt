@@ -9,7 +9,7 @@ use Rattle.records.specs.Form as form
 use Rattle.machine.specs.AsTimers.{asTimers, FewHolds, SameRun, both-ran, both-too-long, both-refused}
 use Rattle.machine.specs.Walk.{Run}
 use Rattle.machine.proofs.AsTimers.{as-timers-judge-alike}
-use Rattle.journal.specs.Check.{answerOf, answerIn, checkOf}
+use Rattle.journal.specs.Check.{checkIn, answerOf, answerIn, checkOf}
 use Rattle.runtime.specs.Run.{madeOf, madeUnder, runOf}
 use Rattle.laws.specs.Timers.{timersFor, TimersForHolds}
 use Rattle.laws.proofs.Tables.{holds-that-table}
@@ -28,7 +28,7 @@ module _ (t : Table) (good : WellFormed t) (few : FewHolds t) where
   runs-alike both-refused = refl
 
 pub timers-for-holds : TimersForHolds
-unfolding checkOf runOf
+unfolding checkIn runOf
 timers-for-holds table passes few =
     let t = tableIn table in
     let good = well-formed table passes in

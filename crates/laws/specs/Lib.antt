@@ -4,3 +4,4 @@ pub mod Runtimes
 pub mod Conversions
 pub mod Timers
 pub mod Stamps
+pub mod Shorts

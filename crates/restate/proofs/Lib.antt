@@ -1,0 +1,3 @@
+pub mod Puts
+pub mod Restating
+pub mod Entries

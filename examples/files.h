@@ -1,0 +1,36 @@
+/* Files of the example hosts. Each of these says on the error stream what went wrong, and returns 1 if nothing did. */
+#ifndef FILES_H
+#define FILES_H
+
+#include <stdint.h>
+#include <stdio.h>
+
+/* The first bytes of a file, as many as there is room for. */
+static inline int load(const char *path, uint8_t *bytes, size_t room, size_t *size)
+{
+    FILE *file = fopen(path, "rb");
+    if (!file) {
+        fprintf(stderr, "%s cannot be opened\n", path);
+        return 0;
+    }
+    *size = fread(bytes, 1, room, file);
+    fclose(file);
+    return 1;
+}
+
+static inline int store(const char *path, const uint8_t *bytes, size_t size)
+{
+    FILE *file = fopen(path, "wb");
+    if (!file) {
+        fprintf(stderr, "%s cannot be opened\n", path);
+        return 0;
+    }
+    size_t written = fwrite(bytes, 1, size, file);
+    if (fclose(file) != 0 || written != size) {
+        fprintf(stderr, "%s cannot be written\n", path);
+        return 0;
+    }
+    return 1;
+}
+
+#endif

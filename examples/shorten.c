@@ -1,0 +1,40 @@
+/* An example host: writes a journal as a short journal, and a short journal as the journal that it stands for. It prints how many
+ * bytes were written, or the refusal, and then writes nothing.
+ *
+ *   rt staticlib krossvil
+ *   gcc -O2 -Iinclude examples/shorten.c target/staticlib/libkrossvil.a -o shorten
+ *   ./shorten examples/short-journal/table.bin examples/short-journal/journal.bin short.bin
+ *   ./shorten examples/short-journal/table.bin short.bin journal.bin
+ */
+#include <stdio.h>
+#include "files.h"
+#include "krossvil.h"
+
+/* A table has at most 1,626 bytes; one byte more than the longest journal of either form lets a file that is too long be turned
+ * down as such. */
+static uint8_t table[2048], given[KROSSVIL_SHORT_MAX + 1], written[KROSSVIL_JOURNAL_MAX];
+
+int main(int count, char **words)
+{
+    size_t table_size, size;
+    uint8_t answer[KROSSVIL_SHORTEN_ANSWER];
+
+    if (count != 4) {
+        fprintf(stderr, "usage: shorten TABLE JOURNAL NEW\n");
+        return 2;
+    }
+    if (!load(words[1], table, sizeof table, &table_size) || !load(words[2], given, sizeof given, &size))
+        return 2;
+
+    /* A short journal begins with the tag 30. What begins with anything else is a journal or is refused as one. */
+    uint64_t code = (size > 0 && given[0] == 0x30 ? krossvil_lengthen : krossvil_shorten)(
+        table, table_size, given, size, written, sizeof written, answer, sizeof answer);
+    if (code != 0) {
+        printf("refused %u at %u\n", krossvil_number(code), krossvil_place(code));
+        return 1;
+    }
+    if (!store(words[3], written, krossvil_read(answer, 0)))
+        return 2;
+    printf("bytes=%u\n", krossvil_read(answer, 0));
+    return 0;
+}
