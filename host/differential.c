@@ -20,6 +20,7 @@ uint64_t second_read_stamped(const uint8_t *, size_t, uint8_t *, size_t, uint8_t
 uint64_t second_check_short(const uint8_t *, size_t, const uint8_t *, size_t, uint8_t *, size_t);
 uint64_t second_shorten(const uint8_t *, size_t, const uint8_t *, size_t, uint8_t *, size_t, uint8_t *, size_t);
 uint64_t second_lengthen(const uint8_t *, size_t, const uint8_t *, size_t, uint8_t *, size_t, uint8_t *, size_t);
+uint64_t second_salvage(const uint8_t *, size_t, const uint8_t *, size_t, uint8_t *, size_t, uint8_t *, size_t);
 #define krossvil_check_table second_check_table
 #define krossvil_check_journal second_check_journal
 #define krossvil_run second_run
@@ -29,6 +30,7 @@ uint64_t second_lengthen(const uint8_t *, size_t, const uint8_t *, size_t, uint8
 #define krossvil_check_short second_check_short
 #define krossvil_shorten second_shorten
 #define krossvil_lengthen second_lengthen
+#define krossvil_salvage second_salvage
 #else
 #include "krossvil.h"
 #endif
@@ -770,7 +772,7 @@ static void damage_pieces(const struct plan *plan, enum form form)
 
 /* ---- one case ---- */
 
-enum entry { CHECK_TABLE, CHECK_JOURNAL, RUN, REACTION, CONVERT_TABLE, READ_STAMPED, CHECK_SHORT, SHORTEN, LENGTHEN, ENTRIES };
+enum entry { CHECK_TABLE, CHECK_JOURNAL, RUN, REACTION, CONVERT_TABLE, READ_STAMPED, CHECK_SHORT, SHORTEN, LENGTHEN, SALVAGE, ENTRIES };
 
 static const struct {
     const char *name;
@@ -778,15 +780,16 @@ static const struct {
     size_t answer_size;
     unsigned share, damaged; /* percent: of the random cases, and how many of these have a damaged table */
 } entries[ENTRIES] = {
-    [CHECK_TABLE] = { "check_table", NOTHING, NOTHING, 0, 15, 65 },
-    [CHECK_JOURNAL] = { "check_journal", JOURNAL, NOTHING, 28, 23, 11 },
-    [RUN] = { "run", STIMULUS, JOURNAL, 4, 21, 12 },
+    [CHECK_TABLE] = { "check_table", NOTHING, NOTHING, 0, 14, 65 },
+    [CHECK_JOURNAL] = { "check_journal", JOURNAL, NOTHING, 28, 21, 11 },
+    [RUN] = { "run", STIMULUS, JOURNAL, 4, 19, 12 },
     [REACTION] = { "reaction", NOTHING, NOTHING, 8, 12, 14 },
     [CONVERT_TABLE] = { "convert_table", NOTHING, TABLE, 4, 7, 45 },
     [READ_STAMPED] = { "read_stamped", STAMPED, JOURNAL, 4, 7, 0 },
     [CHECK_SHORT] = { "check_short", SHORT, NOTHING, 28, 5, 30 },
     [SHORTEN] = { "shorten", JOURNAL, SHORT, 4, 5, 30 },
     [LENGTHEN] = { "lengthen", SHORT, JOURNAL, 4, 5, 30 },
+    [SALVAGE] = { "salvage", JOURNAL, JOURNAL, 16, 5, 20 },
 };
 
 /* Entries of one shape, the reference's and the library's. */
@@ -799,6 +802,7 @@ static uint64_t (*const rewrites[ENTRIES][2])(const uint8_t *, size_t, const uin
     [RUN] = { reference_run, krossvil_run },
     [SHORTEN] = { reference_shorten, krossvil_shorten },
     [LENGTHEN] = { reference_lengthen, krossvil_lengthen },
+    [SALVAGE] = { reference_salvage, krossvil_salvage },
 };
 
 struct call {
@@ -898,10 +902,24 @@ static void call_side(const struct call *call, bool library, struct side *side)
     free(input);
 }
 
+#define REFUSED(number, place) ((uint64_t)(number) << 32 | (place))
+
+static uint32_t number_in(const uint8_t *answer, size_t k)
+{
+    const uint8_t *at = answer + 4 * k;
+    return (uint32_t)at[0] << 24 | (uint32_t)at[1] << 16 | (uint32_t)at[2] << 8 | at[3];
+}
+
 static uint32_t answer_number(const struct lent *answer, size_t k)
 {
-    const uint8_t *at = answer->at + answer->before + 4 * k;
-    return (uint32_t)at[0] << 24 | (uint32_t)at[1] << 16 | (uint32_t)at[2] << 8 | at[3];
+    return number_in(answer->at + answer->before, k);
+}
+
+/* The length of a journal by the answer of the entry that wrote it. To what salvage kept of a refused one it has added an end. */
+static size_t length_by(enum entry entry, const uint8_t *answer)
+{
+    bool end_added = entry == SALVAGE && number_in(answer, 2) != 0;
+    return number_in(answer, 0) + (end_added ? field_size(END, JOURNAL) : 0);
 }
 
 /* How many bytes of its output buffer a side has to fill. */
@@ -909,11 +927,32 @@ static size_t output_size(const struct call *call, const struct side *side)
 {
     if (side->returned != 0 || entries[call->entry].writes == NOTHING)
         return 0;
-    return entries[call->entry].writes == TABLE ? call->table->len : answer_number(&side->answer, 0);
+    return entries[call->entry].writes == TABLE ? call->table->len
+                                                : length_by(call->entry, side->answer.at + side->answer.before);
+}
+
+/* What must hold of a salvaged journal, by the journal check of the reference. */
+static const char *badly_salvaged(const struct call *call, const struct side *side, size_t written)
+{
+    const uint8_t *output = side->output.at + side->output.before;
+    uint32_t numbers[4];
+    uint8_t answer[28];
+    for (size_t k = 0; k < 4; k++)
+        numbers[k] = answer_number(&side->answer, k);
+    if (reference_check_journal(call->table->at, call->table->len, output, written, answer, sizeof answer) != 0)
+        return "the salvaged journal is not accepted";
+    if (reference_check_journal(call->table->at, call->table->len, call->input->at, call->input->len, answer,
+                                sizeof answer) != REFUSED(numbers[2], numbers[3]))
+        return "the refusal that stopped it is not that of the journal check";
+    if ((uint64_t)numbers[0] + numbers[1] != call->input->len)
+        return "the bytes kept and dropped are not those of the journal";
+    if (memcmp(output, call->input->at, numbers[0]) != 0)
+        return "the bytes kept are not the beginning of the journal";
+    return NULL;
 }
 
 /* What must hold of one side by itself: a refusal changes nothing, a success nothing past the answer and the output, a
- * new table passes, and the output is right where that is known. */
+ * new table passes, a salvaged journal is accepted, and the output is right where that is known. */
 static const char *broken(const struct call *call, const struct side *side)
 {
     bool success = side->returned == 0;
@@ -935,7 +974,7 @@ static const char *broken(const struct call *call, const struct side *side)
     if (success && call->right != NULL &&
         (written != call->right->len || memcmp(side->output.at + side->output.before, call->right->at, written) != 0))
         return "the output is not the right one";
-    return NULL;
+    return success && call->entry == SALVAGE ? badly_salvaged(call, side, written) : NULL;
 }
 
 static size_t differs_at(const struct lent *a, const struct lent *b)
@@ -1152,6 +1191,28 @@ static bool draw_input(const struct plan *plan, enum form form, enum form other)
     return damages == 0;
 }
 
+/* A journal to be salvaged: sometimes its opening field is broken; often it is torn, and most that are too long are torn to where the
+ * last tick that may be kept lies. */
+static void tear(void)
+{
+    if (percent(12) && input.len >= 4) {
+        switch (below(4)) {
+        case 0: input.len = below(4); break;
+        case 1: input.at[below(3)] ^= (uint8_t)(1u << below(8)); break;
+        case 2:
+            input.len -= 4;
+            memmove(input.at, input.at + 4, input.len);
+            break;
+        case 3: input.at[3] = (uint8_t)between(32, 255); break;
+        }
+    } else if (input.len > JOURNAL_LIMIT ? percent(80) : input.len > JOURNAL_LIMIT - 100 && percent(60)) {
+        size_t wanted = JOURNAL_LIMIT - below(40);
+        input.len = input.len < wanted ? input.len : wanted;
+    } else if (percent(40)) {
+        input.len = below((uint32_t)input.len + 1);
+    }
+}
+
 static enum table_kind draw_kind(enum entry entry)
 {
     bool converts = entry == CONVERT_TABLE;
@@ -1163,18 +1224,19 @@ static enum table_kind draw_kind(enum entry entry)
 /* How long the output is by the reference; if it refuses, any number will do. */
 static size_t exact_output(enum entry entry)
 {
-    uint8_t length[4];
+    uint8_t answer[16];
     uint64_t refused;
     if (entry == CONVERT_TABLE)
         return table.len;
     if (entry == READ_STAMPED)
-        refused = reference_read_stamped(input.at, input.len, scratch.at, ROOM, length, 4);
+        refused = reference_read_stamped(input.at, input.len, scratch.at, ROOM, answer, sizeof answer);
     else
-        refused = rewrites[entry][0](table.at, table.len, input.at, input.len, scratch.at, ROOM, length, 4);
-    return refused != 0 ? below(300) : (size_t)length[1] << 16 | (size_t)length[2] << 8 | length[3];
+        refused = rewrites[entry][0](table.at, table.len, input.at, input.len, scratch.at, ROOM, answer, sizeof answer);
+    return refused != 0 ? below(300) : length_by(entry, answer);
 }
 
-static uint64_t came_back[ENTRIES]; /* accepted journals that came back from the form that the entry reads or writes */
+/* Accepted journals that came back: from the form that the entry reads or writes, or what it had salvaged from it. */
+static uint64_t came_back[ENTRIES];
 
 static bool accepts_other_form(void)
 {
@@ -1209,6 +1271,27 @@ static void turn_back(const char *label, const struct call *there)
     came_back[there->entry]++;
 }
 
+/* After a success of SALVAGE: what was written is accepted, and comes back unchanged. */
+static void salvage_again(const char *label, const struct call *first)
+{
+    static struct bytes salvaged;
+    struct call again = *first;
+    salvaged.len = output_size(first, &library_side);
+    memcpy(salvaged.at, library_side.output.at + library_side.output.before, salvaged.len);
+    if (answer_number(&library_side.answer, 2) != 0)
+        came_back[SALVAGE]++;
+
+    again.input = again.right = &salvaged;
+    again.output_len = salvaged.len;
+    again.answer_len = 16;
+    compare(label, &again, (const uint64_t[]){ 0, salvaged.len, 0, 0, 0 });
+    again.entry = CHECK_JOURNAL;
+    again.output_len = 0;
+    again.right = NULL;
+    again.answer_len = 28;
+    compare(label, &again, NULL); /* by the reference it was accepted above */
+}
+
 static enum entry draw_entry(void)
 {
     unsigned lot = below(100), entry = CHECK_TABLE;
@@ -1230,8 +1313,10 @@ static void random_case(uint64_t seed, uint64_t number)
     draw_table(&plan, &table, draw_kind(call.entry), percent(entries[call.entry].damaged));
     input.len = 0;
     bool sound = takes != NOTHING && draw_input(&plan, takes, writes);
-    if (sound && writes != NOTHING && call.entry != RUN) /* the runtime's goes by the table, which may be damaged */
+    if (sound && writes != NOTHING && call.entry != RUN && call.entry != SALVAGE) /* theirs go by the table, which may be damaged */
         call.right = &other_form;
+    if (call.entry == SALVAGE)
+        tear();
     if (call.entry == REACTION) {
         call.inputs = percent(25) ? low_bits(plan.i) : draw_set(plan.i);
         call.states = draw_states(&plan, call.inputs);
@@ -1251,11 +1336,11 @@ static void random_case(uint64_t seed, uint64_t number)
         came_back[call.entry]++;
     if (call.entry == SHORTEN || call.entry == LENGTHEN)
         turn_back(label, &call);
+    if (call.entry == SALVAGE)
+        salvage_again(label, &call);
 }
 
 /* ---- the paper's cases ---- */
-
-#define REFUSED(number, place) ((uint64_t)(number) << 32 | (place))
 
 static struct plan classroom(void)
 {
@@ -1315,18 +1400,19 @@ static uint64_t in_short(uint64_t wanted)
     return wanted - place + (place < 4 ? place : 4 + (place - 4) / 8 * 6);
 }
 
-/* The way from one form to the other: with just the room that it takes, and with a byte less for the output or the answer. */
+/* The way from one journal to the other: with just the room that it takes, and with a byte less for the output or the answer. */
 static void compare_way(const char *label, enum entry entry, const struct bytes *from, const struct bytes *to,
-                        uint64_t refused)
+                        const uint64_t *wanted)
 {
     struct call call = { .entry = entry, .table = &table, .input = from, .right = to };
-    const uint64_t wanted[] = { refused, to->len }, without_room[] = { refused != 0 ? refused : REFUSED(30, 0) };
+    const uint64_t without_room[] = { wanted[0] != 0 ? wanted[0] : REFUSED(30, 0) };
+    size_t answer_size = entries[entry].answer_size;
     call.output_len = to->len;
-    call.answer_len = 4;
+    call.answer_len = answer_size;
     compare(label, &call, wanted);
-    call.answer_len = 3;
+    call.answer_len = answer_size - 1;
     compare(label, &call, without_room);
-    call.answer_len = 4;
+    call.answer_len = answer_size;
     call.output_len -= to->len == 0 ? 0 : 1;
     compare(label, &call, without_room);
 }
@@ -1348,8 +1434,8 @@ static void compare_forms(const char *label, const uint64_t *wanted)
     call.entry = CHECK_SHORT;
     call.input = &short_journal;
     compare(label, &call, of_short);
-    compare_way(label, SHORTEN, &journal, &short_journal, wanted[0]);
-    compare_way(label, LENGTHEN, &short_journal, &journal, of_short[0]);
+    compare_way(label, SHORTEN, &journal, &short_journal, (const uint64_t[]){ wanted[0], short_journal.len });
+    compare_way(label, LENGTHEN, &short_journal, &journal, (const uint64_t[]){ of_short[0], journal.len });
 }
 
 /* Journals as a text has them, and what is wanted of the journal check. */
@@ -1764,6 +1850,153 @@ static void longest_short_case(void)
     refused_short("the same without its end", REFUSED(20, 65536), REFUSED(20, 65536));
 }
 
+/* The journal in `input`, salvaged to what is in `other_form`, with room that is just enough or a byte too short; and then again.
+ * `wanted` has five places. */
+static void compare_salvage(const char *label, const uint64_t *wanted)
+{
+    struct call call = {
+        .entry = SALVAGE, .table = &table, .input = &input, .output_len = ROOM / 2, .answer_len = 16, .right = &other_form
+    };
+    compare_way(label, SALVAGE, &input, &other_form, wanted);
+    if (compare(label, &call, wanted) && wanted[0] == 0)
+        salvage_again(label, &call);
+}
+
+/* The pieces up to one, and an end with its time: what is left of a journal whose last sound tick that is. 0 is the opening. */
+static void close_after(size_t piece)
+{
+    struct piece behind = pieces[piece + 1];
+    size_t count = piece_count;
+    pieces[piece + 1] = (struct piece){ .kind = END, .time = pieces[piece].time };
+    piece_count = piece + 2;
+    write_pieces(JOURNAL, &other_form);
+    pieces[piece + 1] = behind;
+    piece_count = count;
+}
+
+/* The classroom's journal, torn at every byte. */
+static void torn_cases(void)
+{
+    struct plan plan = classroom();
+    size_t starts[6], last_tick = 0, field = 0; /* the field that is torn */
+    char label[64];
+
+    write_table(&plan, 2, 2, &table, starts);
+    read_pieces(RUN_TO_3 "p7,0 t8,0 k9,1 p10,0 t10,1 k11,0 e12");
+    for (size_t len = 0; len < 123; len++) {
+        write_pieces(JOURNAL, &input);
+        if (field + 1 < piece_count && len == piece_starts[field + 1]) {
+            if (pieces[field].kind == TICK)
+                last_tick = field;
+            field++;
+        }
+        size_t place = piece_starts[field], kept = last_tick == 0 ? 4 : piece_starts[last_tick] + 8;
+        snprintf(label, sizeof label, "classroom journal, torn to %zu bytes", len);
+        input.len = len;
+        close_after(last_tick);
+        if (field == 0)
+            compare_salvage(label, (const uint64_t[]){ REFUSED(20, 0) });
+        else
+            compare_salvage(label, (const uint64_t[]){ 0, kept, len - kept, 20, place });
+    }
+    expect(field == 15 && last_tick == 14, "the classroom journal was not torn in every field");
+}
+
+/* Journals as a text has them, and what is salvaged from them under the classroom's table. */
+static void salvage_cases(void)
+{
+#define CYCLE_TO_3 "I0 p1,0 t1,1 k3,0 "
+    static const struct {
+        const char *journal, *salvaged;
+        uint64_t wanted[5];
+    } journals[] = {
+        { "I0 e0", "I0 e0", { 0, 11, 0, 0, 0 } },
+        { CYCLE_TO_3 "e3", CYCLE_TO_3 "e3", { 0, 35, 0, 0, 0 } },
+        { CYCLE_TO_3 "c4,1 p5,1 t5,1 e6", CYCLE_TO_3 "c4,1 p5,1 t5,1 e6", { 0, 59, 0, 0, 0 } },
+        { "", "", { REFUSED(20, 0) } },
+        { "e0", "", { REFUSED(22, 0) } },
+        { "p1,0 I0 e1", "", { REFUSED(22, 0) } },
+        { "k0,0 I0 e1", "", { REFUSED(22, 0) } },
+        { "I2 e1", "", { REFUSED(23, 0) } },
+        { "I2", "", { REFUSED(23, 0) } },
+        { "I0", "I0 e0", { 0, 4, 0, 20, 4 } },
+        { "I1 I0 e1", "I1 e0", { 0, 4, 11, 22, 4 } },
+        { "I0 c1,1 p2,1 t2,1 e2 e2", "I0 e0", { 0, 4, 38, 22, 35 } },           /* bytes after the end */
+        { "I0 e0 e0", "I0 e0", { 0, 4, 14, 22, 11 } },
+        { CYCLE_TO_3 "e3 e3", CYCLE_TO_3 "e3", { 0, 28, 14, 22, 35 } },
+        { CYCLE_TO_3 "e5 k5,0", CYCLE_TO_3 "e3", { 0, 28, 15, 22, 35 } },
+        { CYCLE_TO_3 "p4,0 e5 t5,1", CYCLE_TO_3 "e3", { 0, 28, 23, 22, 43 } },
+        { CYCLE_TO_3 "e7", CYCLE_TO_3 "e3", { 0, 28, 7, 25, 28 } },             /* an end that is refused */
+        { CYCLE_TO_3 "e2", CYCLE_TO_3 "e3", { 0, 28, 7, 24, 28 } },
+        { CYCLE_TO_3 "c5,1", CYCLE_TO_3 "e3", { 0, 28, 8, 20, 36 } },
+        { "I0 p1,0 t1,1 k4,0 e4", "I0 e0", { 0, 4, 31, 25, 20 } },              /* a tick that is refused */
+        { "I0 p1,0 t1,1 k3,1 e3", "I0 e0", { 0, 4, 31, 28, 20 } },
+        { "I0 p1,0 t1,1 k3,2 e3", "I0 e0", { 0, 4, 31, 23, 20 } },
+        { "I0 p1,0 k3,0 e3", "I0 e0", { 0, 4, 23, 26, 12 } },
+        { CYCLE_TO_3 "k3,0 e3", CYCLE_TO_3 "e3", { 0, 28, 15, 26, 28 } },
+        { CYCLE_TO_3 "p4,0 t4,1 k7,0 e7", CYCLE_TO_3 "e3", { 0, 28, 31, 25, 44 } },
+        { CYCLE_TO_3 "p3,0 t4,1 k5,0 e5", CYCLE_TO_3 "e3", { 0, 28, 31, 27, 28 } }, /* a tick after what is refused */
+        { "I0 p1,1 t1,1 k3,1 p4,1 t4,1 k5,1 e5", "I0 e0", { 0, 4, 55, 28, 4 } },
+        { RUN_TO_3 "p7,0 t8,1 k9,1 p10,0 t10,1 k11,0 e12", RUN_TO_3 "e6", { 0, 68, 55, 28, 76 } },
+    };
+    struct plan plan = classroom();
+    size_t starts[6];
+    char label[64];
+
+    write_table(&plan, 2, 2, &table, starts);
+    for (size_t k = 0; k < sizeof journals / sizeof *journals; k++) {
+        snprintf(label, sizeof label, "salvage %zu", k);
+        read_pieces(journals[k].salvaged);
+        write_pieces(JOURNAL, &other_form);
+        read_pieces(journals[k].journal);
+        write_pieces(JOURNAL, &input);
+        compare_salvage(label, journals[k].wanted);
+    }
+}
+
+/* Where an end field has no more room. 8,190 records are 65,524 bytes with the opening, and with an end 65,531; the last is a tick.
+ * With a change before them the last tick ends at 65,532: the one before it, at 65,508, is kept. */
+static void last_cut_cases(void)
+{
+    struct plan plan = classroom();
+    size_t starts[6];
+    char label[64];
+
+    plan.bound = 60000;
+    write_table(&plan, 2, 2, &table, starts);
+    take_long_cycles(MOST_RECORDS);
+    write_pieces(JOURNAL, &input);
+    write_pieces(JOURNAL, &other_form);
+    compare_salvage("longest journal", (const uint64_t[]){ 0, 65531, 0, 0, 0 });
+    input.len = 65524;
+    compare_salvage("longest journal, without its end", (const uint64_t[]){ 0, 65524, 0, 20, 65524 });
+    write_pieces(JOURNAL, &input);
+    while (input.len < JOURNAL_LIMIT)
+        add(&input, 0x1F);
+    compare_salvage("longest journal, and five bytes", (const uint64_t[]){ 0, 65524, 12, 22, 65531 });
+    add(&input, 0x1F);
+    compare_salvage("longest journal, and six bytes", (const uint64_t[]){ REFUSED(19, 0) });
+
+    insert_piece(1, (struct piece){ .kind = CHANGE });
+    for (size_t len = 65523; len <= 65537; len++) {
+        snprintf(label, sizeof label, "a record more than the longest, torn to %zu bytes", len);
+        write_pieces(JOURNAL, &input);
+        close_after(8188);
+        input.len = len;
+        size_t place = len < 65524 ? 65516 : len < 65532 ? 65524 : 65532;
+        if (len > JOURNAL_LIMIT)
+            compare_salvage(label, (const uint64_t[]){ REFUSED(19, 0) });
+        else
+            compare_salvage(label, (const uint64_t[]){ 0, 65508, len - 65508, 20, place });
+    }
+    for (size_t k = 1; k < piece_count; k++)
+        pieces[k] = (struct piece){ .kind = CHANGE };
+    write_pieces(JOURNAL, &input);
+    close_after(0);
+    input.len = JOURNAL_LIMIT;
+    compare_salvage("nothing but changes", (const uint64_t[]){ 0, 4, 65532, 20, 65532 });
+}
+
 /* ---- the whole ---- */
 
 static bool can_give(enum entry entry, unsigned number)
@@ -1778,6 +2011,8 @@ static bool can_give(enum entry entry, unsigned number)
         return entry != CHECK_TABLE;
     if (entry == REACTION)
         return number == 9 || number == 10 || number == 14;
+    if (entry == SALVAGE)
+        return number >= 19 && number <= 23; /* all that is wrong behind the opening field is salvaged */
     if (number == 24)
         return entries[entry].takes == JOURNAL || entries[entry].takes == STIMULUS; /* a gap is never below 0 */
     if (number >= 19 && number <= 28)
@@ -1830,6 +2065,7 @@ static uint64_t print_came_back(uint64_t *seen)
         { READ_STAMPED, "stamped and read back" },
         { SHORTEN, "shortened and lengthened" },
         { LENGTHEN, "short ones, lengthened and shortened" },
+        { SALVAGE, "salvaged ones, salvaged again" },
     };
     uint64_t away = 0;
     for (size_t k = 0; k < sizeof ways / sizeof *ways; k++) {
@@ -1866,6 +2102,9 @@ int main(int argc, char **argv)
     form_cases();
     short_cases();
     longest_short_case();
+    torn_cases();
+    salvage_cases();
+    last_cut_cases();
     uint64_t asserted = passed, wrong = mismatches;
     for (uint64_t number = 0; number < cases; number++)
         random_case(seed, number);

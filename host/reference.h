@@ -1,4 +1,4 @@
-/* A second implementation of the nine entries in plain C, written from the rules alone. The library is
+/* A second implementation of the ten entries in plain C, written from the rules alone. The library is
  * held against it. Each entry returns 0, or refusal number * 2^32 + place; on success the answer's numbers stand at
  * the start of `answer`, four bytes each, most significant byte first.
  *
@@ -11,6 +11,7 @@
  *   check_short    as check_journal
  *   shorten        the short journal's length
  *   lengthen       the journal's length
+ *   salvage        bytes kept, bytes dropped, number and place of the refusal that stopped it
  *
  * With SECOND defined the same entries get the prefix second_, so that two builds can be linked into one program. */
 #ifndef REFERENCE_H
@@ -29,6 +30,7 @@
 #define reference_check_short second_check_short
 #define reference_shorten second_shorten
 #define reference_lengthen second_lengthen
+#define reference_salvage second_salvage
 #endif
 
 uint64_t reference_check_table(const uint8_t *table, size_t table_len);
@@ -56,5 +58,8 @@ uint64_t reference_shorten(const uint8_t *table, size_t table_len, const uint8_t
 
 uint64_t reference_lengthen(const uint8_t *table, size_t table_len, const uint8_t *short_journal, size_t short_len,
                             uint8_t *journal, size_t journal_len, uint8_t *answer, size_t answer_len);
+
+uint64_t reference_salvage(const uint8_t *table, size_t table_len, const uint8_t *journal, size_t journal_len,
+                           uint8_t *salvaged, size_t salvaged_len, uint8_t *answer, size_t answer_len);
 
 #endif

@@ -85,6 +85,7 @@ same 'the changed verdict has the classroom table' examples/changed-verdict/tabl
 same 'the old table was converted to the classroom table' examples/idle-sets/table.bin examples/classroom/table.bin
 same 'the short journal has the classroom table' examples/short-journal/table.bin examples/classroom/table.bin
 same 'the short journal was made of the classroom journal' examples/short-journal/journal.bin examples/classroom/journal.bin
+same 'the torn journal has the classroom table' examples/torn-journal/table.bin examples/classroom/table.bin
 
 # ---- The runs of the classroom table
 
@@ -120,6 +121,18 @@ fresh
 cp "$root/examples/short-journal/table.bin" .
 cp "$root/examples/short-journal/short.bin" journal.bin
 prints 'a short journal in the place of the journal' 'refused 21 at 0'
+
+# ---- A torn journal, and what is salvaged from it
+
+fresh
+cp "$root/examples/torn-journal/table.bin" .
+cp "$root/examples/torn-journal/torn.bin" journal.bin
+prints 'a torn journal' 'refused 20 at 108'
+
+fresh
+cp "$root/examples/torn-journal/table.bin" .
+cp "$root/examples/torn-journal/salvaged.bin" journal.bin
+prints 'what is salvaged from it' 'accepted end=9 cycles=3 moves=1 state=1 output=1 left=4 longest=3'
 
 # ---- Tables with timers
 

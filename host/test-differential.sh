@@ -97,7 +97,7 @@ fi
 called=("$library")
 if [ "$self" = yes ]; then
     called=("$out/differential-second.o")
-    for entry in check_table check_journal run reaction convert_table read_stamped check_short shorten lengthen; do
+    for entry in check_table check_journal run reaction convert_table read_stamped check_short shorten lengthen salvage; do
         called+=("-Dkrossvil_$entry=second_$entry")
     done
 fi
@@ -154,6 +154,25 @@ rewrites "$shorten" examples/changed-verdict/journal.bin 'refused 28 at 76' exam
 rewrites "$shorten" "$out/changed.bin" 'refused 28 at 58' "$out/changed.bin"
 rewrites "$shorten" examples/short-clock/stamped.bin 'refused 21 at 4' examples/short-clock/stamped.bin
 rewrites 'shorten examples/idle-sets/old-table.bin' examples/short-journal/short.bin 'refused 11 at 40' examples/short-journal/short.bin
+
+echo "== the example of torn journals"
+compile examples/salvage.c "${called[@]}" "${link[@]}" -o "$out/salvage" || stop "did not build"
+salvage="salvage examples/torn-journal/table.bin"
+end_at() { printf '\037\000\004\000\000\000%b' "\\0$1"; } # THREE OCTAL DIGITS: an end field with this time
+{ cat examples/classroom/journal.bin; printf '\000'; } >"$out/followed.bin"
+{ head -c 116 examples/classroom/journal.bin; end_at 013; } >"$out/ended-at-11.bin"
+{ head -c 68 examples/classroom/journal.bin; end_at 006; } >"$out/ended-at-6.bin"
+{ head -c 4 examples/classroom/journal.bin; end_at 000; } >"$out/ended-at-0.bin"
+head -c 3 examples/classroom/journal.bin >"$out/no-opening.bin"
+rewrites "$salvage" examples/torn-journal/torn.bin 'kept=92 dropped=21 refused 20 at 108' examples/torn-journal/salvaged.bin
+rewrites "$salvage" examples/torn-journal/salvaged.bin 'kept=99 dropped=0' examples/torn-journal/salvaged.bin
+rewrites "$salvage" examples/classroom/journal.bin 'kept=123 dropped=0' examples/classroom/journal.bin
+rewrites "$salvage" "$out/followed.bin" 'kept=116 dropped=8 refused 22 at 123' "$out/ended-at-11.bin"
+rewrites "$salvage" examples/changed-verdict/journal.bin 'kept=68 dropped=55 refused 28 at 76' "$out/ended-at-6.bin"
+rewrites "$salvage" examples/short-clock/stamped.bin 'kept=4 dropped=89 refused 21 at 4' "$out/ended-at-0.bin"
+rewrites "$salvage" "$out/no-opening.bin" 'refused 20 at 0' "$out/no-opening.bin"
+rewrites "$salvage" examples/short-journal/short.bin 'refused 21 at 0' examples/short-journal/short.bin
+rewrites 'salvage examples/idle-sets/old-table.bin' examples/torn-journal/torn.bin 'refused 11 at 40' examples/torn-journal/torn.bin
 
 if [ "$self" = no ]; then
     echo "== the stack that the functions need"

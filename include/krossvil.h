@@ -1,6 +1,7 @@
 /*
  * krossvil: a table check, a journal check, a runtime, a reaction calculator, a converter of old tables, a reader of stamped
- * journals, and for short journals a check and the ways to and from journals; for polling controllers, and a host program in C.
+ * journals, for short journals a check and the ways to and from journals, and salvage of torn journals; for polling controllers,
+ * and a host program in C.
  *
  * Link with libkrossvil.a (x86-64). The functions keep no state, allocate nothing, call only memcpy and memset, and never stop the program:
  * each ends with an answer on any bytes. How much stack they need is below; that is measured, not proved.
@@ -102,6 +103,7 @@
  * then for 11; in field 07 timer by timer, each for 13 at its length and then for 12 at its region; 8 is the last of them. Then,
  * of a journal, a stimulus or a short journal, 19, and field by field 20 to 28; of a stamped journal, which has no table, 19, and
  * field by field 20 to 22; of the calculator, 14, 9 for the states, 9 for the inputs, 10. Then, of krossvil_lengthen, 34. Then 30.
+ * krossvil_salvage gives 20 to 23 only at 0, for the opening field: it salvages from all that is wrong behind that.
  * The table check has no answer, and gives 1 to 8 and 11 to 13 only. The converter gives none of 11 to 14: it takes tables with holds
  * only, and field 07 is 2 to it. 29, a run's journal that would pass 65,536 bytes, is no longer given, since no run makes one; the
  * number is not used again.
@@ -132,6 +134,7 @@ extern "C" {
 #define KROSSVIL_SHORT_ANSWER 28u   /* as that of a journal */
 #define KROSSVIL_SHORTEN_ANSWER 4u  /* the short journal's length in bytes */
 #define KROSSVIL_LENGTHEN_ANSWER 4u /* the journal's length in bytes */
+#define KROSSVIL_SALVAGE_ANSWER 16u /* bytes kept, bytes dropped, number and place of the refusal that stopped it */
 
 /* Does the table pass? There are no further numbers. */
 uint64_t krossvil_check_table(const uint8_t *table, size_t table_len);
@@ -184,6 +187,16 @@ uint64_t krossvil_shorten(const uint8_t *table, size_t table_len, const uint8_t 
  * journal's length. */
 uint64_t krossvil_lengthen(const uint8_t *table, size_t table_len, const uint8_t *short_journal, size_t short_len,
                            uint8_t *journal, size_t journal_len, uint8_t *answer, size_t answer_len);
+
+/* Write what is sound of a torn journal at the start of `salvaged`; the bytes past it are unchanged. An accepted journal is written as
+ * it is: the answer is its length, 0, 0 and 0. Otherwise krossvil_check_journal refuses it at some record, or at the bytes behind the
+ * end field. Of the records before that place, those up to the last tick that ends at or before byte 65,529 are kept, or the opening
+ * field alone if there is no such tick; then comes an end field of 7 bytes with the time of that tick, or 0. Answer, 16 bytes: the
+ * number of bytes kept, without the end field that is added; the number of bytes dropped; the refusal number and the place that
+ * stopped it. What is written is accepted, and comes back unchanged when it is salvaged; it has at most 65,536 bytes, and up to 7 more
+ * than the journal. A journal that is too long, or whose opening field is refused, is refused in the same way. */
+uint64_t krossvil_salvage(const uint8_t *table, size_t table_len, const uint8_t *journal, size_t journal_len,
+                          uint8_t *salvaged, size_t salvaged_len, uint8_t *answer, size_t answer_len);
 
 static inline uint32_t krossvil_number(uint64_t code) { return (uint32_t)(code >> 32); }
 

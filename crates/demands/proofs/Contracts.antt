@@ -12,6 +12,7 @@ use Rattle.wire.specs.Reply.{Reply, gives, refuses, numberIn, valuesIn}
 use Rattle.table.specs.declared.Answer as table′
 use Rattle.table.proofs.Answers.{decided}
 use Rattle.table.specs.Answer as table-answer
+use Rattle.records.proofs.Places.{refusal-numbered}
 use Rattle.runtime.specs.declared.Answer as runtime′
 use Rattle.runtime.specs.declared.Answer.the-variants as made
 use Rattle.runtime.specs.Answer as run-answer
@@ -28,12 +29,17 @@ use Rattle.restate.specs.declared.Answer as restate′
 use Rattle.restate.specs.declared.Answer.the-variants as restated
 use Rattle.restate.specs.Answer as restate-answer
 use Rattle.restate.specs.Restate.{shortenOf, lengthenOf}
-use Rattle.krossvil.proofs.Accepting.{table-numbered, refusal-numbered}
+use Rattle.krossvil.proofs.Accepting.{table-numbered}
+use Rattle.salvage.specs.declared.Answer as salvage′
+use Rattle.salvage.specs.declared.Answer.the-variants as salvaged
+use Rattle.salvage.specs.Answer as salvage-answer
+use Rattle.salvage.specs.Salvage.{salvageOf}
 use Rattle.krossvil.proofs.Writers.{Gives}
 use Rattle.krossvil.proofs.Runs.{run-gives}
 use Rattle.krossvil.proofs.Converts.{convert-gives}
 use Rattle.krossvil.proofs.Stamps.{stamped-gives}
 use Rattle.krossvil.proofs.Restates.{shorten-gives, lengthen-gives}
+use Rattle.krossvil.proofs.Salvages.{salvage-gives}
 use Rattle.krossvil.specs.Host.{told, codeOf, numberBytes, answerAfter, journalTold, shortTold, bufferAfter, reactionTold}
 use Rattle.laws.proofs.Never28.{never-differs}
 use Rattle.demands.specs.Contracts.{EveryEntryDetermines, EveryRefusalKeeps, RunNeverDiffers}
@@ -117,6 +123,15 @@ restated-numbered (restated.Refused refusal place) = refusal-numbered refusal
 restated-numbered restated.OldFormTooLong = refl
 restated-numbered restated.BufferTooShort = refl
 
+-- ---- Salvage
+
+salvage-numbered : (a : salvage′.Answer) → Numbered (salvage-answer.replyOf a)
+salvage-numbered (salvaged.Salvaged kept dropped number place) = tt
+salvage-numbered (salvaged.TableRefused answer) = table-fine answer
+salvage-numbered salvaged.TooLong = refl
+salvage-numbered (salvaged.Refused refusal place) = refusal-numbered refusal
+salvage-numbered salvaged.BufferTooShort = refl
+
 -- ---- The entries
 
 -- Slices that are left as one another.
@@ -137,6 +152,7 @@ every-entry-determines = (
   record { asks-nothing = λ κs a. tt; one-outcome = λ κs a r r′ s s′ p p′. (p ∙ sym p′, refl) },
   record { asks-nothing = λ κs a. tt; one-outcome = λ κs a r r′ s s′ p p′. (p .0 ∙ sym (p′ .0), one (p .1 ∙ sym (p′ .1))) },
   record { asks-nothing = λ κs a. tt; one-outcome = λ κs a r r′ s s′ p p′. (p .0 ∙ sym (p′ .0), one (p .1 ∙ sym (p′ .1))) },
+  record { asks-nothing = λ κs a. tt; one-outcome = λ κs a r r′ s s′ p p′. (p .0 ∙ sym (p′ .0), one (p .1 ∙ sym (p′ .1))) },
   record { asks-nothing = λ κs a. tt; one-outcome = λ κs a r r′ s s′ p p′. (p ∙ sym p′, refl) },
   record { asks-nothing = λ κs a. tt; one-outcome = λ κs a r r′ s s′ p p′. (p .0 ∙ sym (p′ .0), one (p .1 ∙ sym (p′ .1))) },
   record {
@@ -153,6 +169,10 @@ every-entry-determines = (
     one-outcome = λ κs a r r′ s s′ p p′. (p .0 ∙ sym (p′ .0), two (p .1 .1 ∙ sym (p′ .1 .1)) (p .1 .0 ∙ sym (p′ .1 .0)));
   },
   record { asks-nothing = λ κs a. tt; one-outcome = λ κs a r r′ s s′ p p′. (p .0 ∙ sym (p′ .0), one (p .1 ∙ sym (p′ .1))) },
+  record {
+    asks-nothing = λ κs a. tt;
+    one-outcome = λ κs a r r′ s s′ p p′. (p .0 ∙ sym (p′ .0), two (p .1 .1 ∙ sym (p′ .1 .1)) (p .1 .0 ∙ sym (p′ .1 .0)));
+  },
   record {
     asks-nothing = λ κs a. tt;
     one-outcome = λ κs a r r′ s s′ p p′. (p .0 ∙ sym (p′ .0), two (p .1 .1 ∙ sym (p′ .1 .1)) (p .1 .0 ∙ sym (p′ .1 .0)));
@@ -180,6 +200,9 @@ every-refusal-keeps = (
   λ κs a r s p other.
       one (p .1 ∙ made-kept restate-answer.replyOf restated.BufferTooShort 1 (lengthenOf (now (a .0)) (now (a .1 .0))) (lengthen-gives (now (a .0)) (now (a .1 .0)))
       (now (a .1 .1 .0)) (λ e. other (ap (λ x. numberIn (restate-answer.replyOf x)) (p .0) ∙ e))),
+  λ κs a r s p other.
+      one (p .1 ∙ made-kept salvage-answer.replyOf salvaged.BufferTooShort 4 (salvageOf (now (a .0)) (now (a .1 .0))) (salvage-gives (now (a .0)) (now (a .1 .0)))
+      (now (a .1 .1 .0)) (λ e. other (ap (λ x. numberIn (salvage-answer.replyOf x)) (p .0) ∙ e))),
   λ κs a r s p other.
       let answer = now (a .1 .1 .0) in
       one (p .1 ∙ answer-kept (journalTold (now (a .0)) (now (a .1 .0)) (length answer)) answer (λ e. other (p .0 ∙ e))),
@@ -215,6 +238,12 @@ every-refusal-keeps = (
       let made-is = lengthenOf (now (a .0)) (now (a .1 .0)) in
       let told-as = answerIn restated.BufferTooShort made-is (length buffer) in
       both-kept (restate-answer.replyOf told-as) (restated-numbered told-as)
+      (bufferIn made-is buffer) buffer (now (a .1 .1 .1 .0)) _ (p .1 .1) _ (p .1 .0) (λ e. other (p .0 ∙ e)),
+  λ κs a r s p other.
+      let buffer = now (a .1 .1 .0) in
+      let made-is = salvageOf (now (a .0)) (now (a .1 .0)) in
+      let told-as = answerIn salvaged.BufferTooShort made-is (length buffer) in
+      both-kept (salvage-answer.replyOf told-as) (salvage-numbered told-as)
       (bufferIn made-is buffer) buffer (now (a .1 .1 .1 .0)) _ (p .1 .1) _ (p .1 .0) (λ e. other (p .0 ∙ e)),
 )
 

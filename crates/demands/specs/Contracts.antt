@@ -32,6 +32,9 @@ use Rattle.restate.proofs.shorten.Kinds as shorten-kinds
 use Rattle.restate.proofs.shorten.Reads as shorten
 use Rattle.restate.proofs.lengthen.Kinds as lengthen-kinds
 use Rattle.restate.proofs.lengthen.Reads as lengthen
+use Rattle.salvage.specs.Answer as salvage-answer
+use Rattle.salvage.proofs.salvage.Kinds as salvage-kinds
+use Rattle.salvage.proofs.salvage.Reads as salvage
 use Rattle.krossvil.proofs.krossvil_check_table.Kinds as c-table-kinds
 use Rattle.krossvil.proofs.krossvil_check_table.Reads as c-table
 use Rattle.krossvil.proofs.krossvil_check_journal.Kinds as c-journal-kinds
@@ -50,6 +53,8 @@ use Rattle.krossvil.proofs.krossvil_shorten.Kinds as c-shorten-kinds
 use Rattle.krossvil.proofs.krossvil_shorten.Reads as c-shorten
 use Rattle.krossvil.proofs.krossvil_lengthen.Kinds as c-lengthen-kinds
 use Rattle.krossvil.proofs.krossvil_lengthen.Reads as c-lengthen
+use Rattle.krossvil.proofs.krossvil_salvage.Kinds as c-salvage-kinds
+use Rattle.krossvil.proofs.krossvil_salvage.Reads as c-salvage
 
 -- A contract, and the bytes of the slices that are lent to be written, as they were and as they are left.
 pub record Contract : Type 1 where
@@ -102,6 +107,9 @@ shortener = entry 3 shorten-kinds.ps shorten-kinds.r shorten.Pre shorten.Post (�
 abbrev pub lengthener : Contract
 lengthener = entry 3 lengthen-kinds.ps lengthen-kinds.r lengthen.Pre lengthen.Post (λ κs a. now (a .1 .1 .0) ∷ []) (λ κs s. now (s .1 .1 .0) ∷ [])
 
+abbrev pub salvager : Contract
+salvager = entry 3 salvage-kinds.ps salvage-kinds.r salvage.Pre salvage.Post (λ κs a. now (a .1 .1 .0) ∷ []) (λ κs s. now (s .1 .1 .0) ∷ [])
+
 abbrev pub tableInC : Contract
 tableInC = entry 1 c-table-kinds.ps c-table-kinds.r c-table.Pre c-table.Post (λ κs a. []) (λ κs s. [])
 
@@ -141,6 +149,11 @@ lengthenerInC =
     entry 4 c-lengthen-kinds.ps c-lengthen-kinds.r c-lengthen.Pre c-lengthen.Post
     (λ κs a. now (a .1 .1 .0) ∷ now (a .1 .1 .1 .0) ∷ []) (λ κs s. now (s .1 .1 .0) ∷ now (s .1 .1 .1 .0) ∷ [])
 
+abbrev pub salvagerInC : Contract
+salvagerInC =
+    entry 4 c-salvage-kinds.ps c-salvage-kinds.r c-salvage.Pre c-salvage.Post
+    (λ κs a. now (a .1 .1 .0) ∷ now (a .1 .1 .1 .0) ∷ []) (λ κs s. now (s .1 .1 .0) ∷ now (s .1 .1 .1 .0) ∷ [])
+
 -- ---- Every answer is determined
 
 -- The contract asks nothing and allows one outcome: the result, and every lent byte.
@@ -152,9 +165,9 @@ pub record Determines (C : Contract) : Type 0 where
 abbrev pub EveryEntryDetermines : Type 0
 EveryEntryDetermines =
     Determines tableCheck × Determines journalCheck × Determines runtimeRun × Determines reactionReact × Determines converter
-    × Determines stampedReader × Determines shortCheck × Determines shortener × Determines lengthener
+    × Determines stampedReader × Determines shortCheck × Determines shortener × Determines lengthener × Determines salvager
     × Determines tableInC × Determines journalInC × Determines runInC × Determines reactionInC × Determines converterInC
-    × Determines stampedInC × Determines shortInC × Determines shortenerInC × Determines lengthenerInC
+    × Determines stampedInC × Determines shortInC × Determines shortenerInC × Determines lengthenerInC × Determines salvagerInC
 
 -- ---- A refusal changes no lent byte
 
@@ -167,9 +180,10 @@ EveryRefusalKeeps =
     RefusalKeeps runtimeRun (λ κs r. numberIn (replyOf r)) × RefusalKeeps converter (λ κs r. numberIn (convert-answer.replyOf r))
     × RefusalKeeps stampedReader (λ κs r. numberIn (stamped-answer.replyOf r))
     × RefusalKeeps shortener (λ κs r. numberIn (restate-answer.replyOf r)) × RefusalKeeps lengthener (λ κs r. numberIn (restate-answer.replyOf r))
+    × RefusalKeeps salvager (λ κs r. numberIn (salvage-answer.replyOf r))
     × RefusalKeeps journalInC (λ κs r. r) × RefusalKeeps runInC (λ κs r. r) × RefusalKeeps reactionInC (λ κs r. r)
     × RefusalKeeps converterInC (λ κs r. r) × RefusalKeeps stampedInC (λ κs r. r)
-    × RefusalKeeps shortInC (λ κs r. r) × RefusalKeeps shortenerInC (λ κs r. r) × RefusalKeeps lengthenerInC (λ κs r. r)
+    × RefusalKeeps shortInC (λ κs r. r) × RefusalKeeps shortenerInC (λ κs r. r) × RefusalKeeps lengthenerInC (λ κs r. r) × RefusalKeeps salvagerInC (λ κs r. r)
 
 -- ---- The runtime never gives 28
 

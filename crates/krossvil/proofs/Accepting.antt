@@ -16,6 +16,7 @@ use Rattle.table.specs.Under.{underTable}
 use Rattle.table.specs.Check.{tableAnswer, tableIn}
 use Rattle.table.proofs.Answers.{decided}
 use Rattle.records.specs.declared.Refusal.{Refusal}
+use Rattle.records.proofs.Places.{refusal-numbered}
 use Rattle.records.specs.declared.Refusal.the-variants.{RunsOut, UnknownField, Misplaced, OutOfRange, TimeFalls, PastBound, WrongPhase, Unsettled, Differs}
 use Rattle.records.specs.Refusal.{numberOf}
 use Rattle.records.specs.Form.{Form}
@@ -29,17 +30,6 @@ use Rattle.krossvil.specs.Host.{told, codeOf}
 
 pub table-numbered : (a : table′.Answer) → passes? a ≡ false → (numberIn (table-answer.replyOf a) =? 0) ≡ false
 table-numbered a r = r
-
-pub refusal-numbered : (x : Refusal) → (numberOf x =? 0) ≡ false
-refusal-numbered RunsOut = refl
-refusal-numbered UnknownField = refl
-refusal-numbered Misplaced = refl
-refusal-numbered OutOfRange = refl
-refusal-numbered TimeFalls = refl
-refusal-numbered PastBound = refl
-refusal-numbered WrongPhase = refl
-refusal-numbered Unsettled = refl
-refusal-numbered Differs = refl
 
 -- An answer that is told as 0 is an acceptance.
 pub record IsAccepted (a : Answer) : Type 0 where

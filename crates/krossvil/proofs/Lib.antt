@@ -8,3 +8,4 @@ pub mod Converts
 pub mod Stamps
 pub mod Accepting
 pub mod Restates
+pub mod Salvages

@@ -56,6 +56,17 @@ refusal-small WrongPhase = omega arith
 refusal-small Unsettled = omega arith
 refusal-small Differs = omega arith
 
+pub refusal-high : (x : Refusal) → 20 ≤ numberOf x
+refusal-high RunsOut = omega arith
+refusal-high UnknownField = omega arith
+refusal-high Misplaced = omega arith
+refusal-high OutOfRange = omega arith
+refusal-high TimeFalls = omega arith
+refusal-high PastBound = omega arith
+refusal-high WrongPhase = omega arith
+refusal-high Unsettled = omega arith
+refusal-high Differs = omega arith
+
 -- ---- The walk stops at the place of an item, or where the items break off
 
 abbrev StopsBy : ℕ → Walk → Type 0

@@ -41,7 +41,7 @@ use Rattle.krossvil.proofs.TablePlaces.{table-none, table-fits}
 use Rattle.krossvil.proofs.Places.{RunBy, run-by, refusal-small, small}
 use Rattle.krossvil.proofs.Outcomes.{told-fits}
 use Rattle.krossvil.proofs.Accepting.{zero-accepted}
-use Rattle.krossvil.proofs.Writers.{Writes, Gives, WriteOwed, refused-owed, made-writes}
+use Rattle.krossvil.proofs.Writers.{Writes, Gives, WriteOwed, made-writes, made-refused-owed}
 use Rattle.krossvil.proofs.Lengths.{TellsLength, length-gives, length-writes, length-fits}
 
 pub restated-none : (a : Answer) → OneOf (1 ∷ 2 ∷ 3 ∷ 4 ∷ 5 ∷ []) (tagOf AnswerT.the-type a) → valuesIn (replyOf a) ≡ []
@@ -51,14 +51,6 @@ restated-none TooLong h = refl
 restated-none (Refused refusal place) h = refl
 restated-none OldFormTooLong h = refl
 restated-none BufferTooShort h = refl
-
-answer-refused : (x : Answer) (room : ℕ) → replyOf (answerIn BufferTooShort (made.refused x) room) ≡ replyOf x
-unfolding answerIn
-answer-refused x room = refl
-
-buffer-refused : (x : Answer) (buffer : List ℕ) → bufferIn (made.refused x) buffer ≡ buffer
-unfolding bufferIn
-buffer-refused x buffer = refl
 
 -- ---- To the short form: six bytes for every eight
 
@@ -141,9 +133,7 @@ module _ (F : Form) (of : Run → Made Answer) (table s : List ℕ) where
     where
       up : (x : Answer) → m ≡ made.refused x → valuesIn (replyOf x) ≡ [] → code ≡ codeOf (told (replyOf x) 28) →
           WriteOwed (λ room. replyOf (answerIn BufferTooShort m room)) (bufferIn m) buffer answer code answer buffer
-      up x turned none f =
-          refused-owed (λ room. replyOf (answerIn BufferTooShort m room)) (bufferIn m) buffer answer (replyOf x)
-          (rw turned (answer-refused x (length buffer))) none (rw turned (buffer-refused x buffer)) 28 code f
+      up x turned none f = made-refused-owed replyOf BufferTooShort m x turned none 28 code f buffer answer
 
       go : (a : journal′.Answer) → checkIn F table s ≡ a →
           WriteOwed (λ room. replyOf (answerIn BufferTooShort m room)) (bufferIn m) buffer answer code answer buffer

@@ -1,4 +1,4 @@
--- Refusal numbers are at most 30 and places are below 2^32, so that both fit into one number of 64 bits: the table's.
+-- Refusal numbers are at most 35 and places are below 2^32, so that both fit into one number of 64 bits: the table's.
 use mathlib.Core.Path.{_≡_, refl, sym}
 use mathlib.Core.List.{List, []}
 use mathlib.Core.Bool.{Bool, true, false, not, _&&_}
@@ -33,7 +33,7 @@ table-none a = decided a (λ e. rw e) (λ r other. refusal-none (replyOf a) r)
 
 -- A table has fewer than 2,000 bytes up to its last entry.
 record By (a : Answer) : Type 0 where
-  number : numberIn (replyOf a) ≤ 35
+  number : numberIn (replyOf a) < 20
   place : placeIn (replyOf a) ≤ 2000
 
 passing : By verdict.Passes
@@ -136,7 +136,10 @@ by-table old s =
     (by-then _ _ (by-field s 7 0x02 (omega arith) 4) (λ q. by-test _ _ (record { number = omega arith; place = omega arith })))
     (λ q. by-all (countsIn s) s (fit .states .1) (fit .inputs .1) old))
 
+pub table-low : (old : Bool) (s : List ℕ) → numberIn (replyOf (answerBy old s)) < 20
+table-low old s = by-table old s .number
+
 pub table-fits : (old : Bool) (s : List ℕ) → Fits (replyOf (answerBy old s))
 table-fits old s =
     let by = by-table old s in
-    record { number = by .number; place = omega (arith, by .place) }
+    record { number = omega (arith, by .number); place = omega (arith, by .place) }

@@ -115,3 +115,11 @@ made-writes replyOf short thirty k (refused a) g = never (replyOf a) (λ room. r
 made-writes replyOf short thirty k (made a bytes) (values, few, gave) =
     makes (length bytes) values few (λ room. told-made replyOf short a values thirty gave (room <? length bytes))
     (λ buffer h. rw (lt-ltb (length buffer) (length bytes) h) refl)
+
+-- What was turned down is told so, and no buffer changes.
+pub made-refused-owed : {A : Type 0} (replyOf : A → Reply) (short : A) (m : Made A) (x : A) → m ≡ refused x → valuesIn (replyOf x) ≡ [] →
+    (room code : ℕ) → code ≡ codeOf (told (replyOf x) room) → (buffer answer : List ℕ) →
+    WriteOwed (λ room. replyOf (answerIn short m room)) (bufferIn m) buffer answer code answer buffer
+unfolding answerIn bufferIn
+made-refused-owed replyOf short m x is none room code e buffer answer =
+    refused-owed (λ room. replyOf (answerIn short m room)) (bufferIn m) buffer answer (replyOf x) (rw is refl) none (rw is refl) room code e

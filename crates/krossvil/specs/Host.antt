@@ -10,6 +10,9 @@ use Rattle.journal.specs.Answer as journal
 use Rattle.journal.specs.Check.{checkOf, checkShortOf}
 use Rattle.runtime.specs.Answer as runtime
 use Rattle.runtime.specs.Run.{runOf, answerOf}
+use Rattle.salvage.specs.declared.Answer.the-variants as salvaged
+use Rattle.salvage.specs.Answer as salvage
+use Rattle.salvage.specs.Salvage.{salvageOf}
 use Rattle.convert.specs.declared.Answer.the-variants.{BufferTooShort}
 use Rattle.convert.specs.Answer as convert
 use Rattle.convert.specs.Convert as convert′
@@ -87,3 +90,9 @@ lengthenTold table bytes buffer room = told (restate.replyOf (answerIn restate�
 
 abbrev pub lengthenedJournal : List ℕ → List ℕ → List ℕ → ℕ → List ℕ
 lengthenedJournal table bytes buffer room = bufferAfter (lengthenTold table bytes buffer room) (bufferIn (lengthenOf table bytes) buffer) buffer
+
+abbrev pub salvageTold : List ℕ → List ℕ → List ℕ → ℕ → Reply
+salvageTold table records buffer room = told (salvage.replyOf (answerIn salvaged.BufferTooShort (salvageOf table records) (length buffer))) room
+
+abbrev pub salvageJournal : List ℕ → List ℕ → List ℕ → ℕ → List ℕ
+salvageJournal table records buffer room = bufferAfter (salvageTold table records buffer room) (bufferIn (salvageOf table records) buffer) buffer

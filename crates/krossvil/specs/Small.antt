@@ -1,6 +1,8 @@
--- What fits into one number of 64 bits: a helper of contracts, no rule.
-use Prim.Native.Nat.{_^_, _<_, _≤_}
+-- What fits into one number of 64 bits, and what salvage passes up: helpers of contracts, no rules.
+use mathlib.Core.Bool.{Bool, true, false}
+use Prim.Native.Nat.{ℕ, _^_, _<_, _≤_}
 use lib.ListN.{getD}
+use Rattle.wire.specs.Choice.{_<?_, _=?_, if_then_else_}
 use Rattle.wire.specs.Reply.{Reply, numberIn, placeIn, valuesIn}
 use Rattle.records.specs.Form.{longestJournal}
 
@@ -11,3 +13,11 @@ pub record Fits (reply : Reply) : Type 0 where
 -- The same of a reply whose one number is a journal's length.
 abbrev pub LengthFits : Reply → Type 0
 LengthFits reply = Fits reply × (getD (valuesIn reply) 0 0 ≤ longestJournal)
+
+-- Every number of the reply counts bytes of a journal, or is smaller.
+abbrev pub Counts : Reply → Type 0
+Counts reply = (k : ℕ) → getD (valuesIn reply) k 0 ≤ longestJournal
+
+-- A refusal of the table, of the length or of the opening field.
+unfoldable pub passedUp : (number place : ℕ) → Bool
+passedUp number place = if number =? 0 then false else if number <? 20 then true else place =? 0

@@ -12,3 +12,6 @@ pub mod Conversions
 pub mod Timers
 pub mod Stamps
 pub mod Shorts
+pub mod Fronts
+pub mod Cuts
+pub mod Salvages

@@ -5,3 +5,4 @@ pub mod Conversions
 pub mod Timers
 pub mod Stamps
 pub mod Shorts
+pub mod Salvages

@@ -1,0 +1,4 @@
+pub mod Reaching
+pub mod Checking
+pub mod Looking
+pub mod Closing
