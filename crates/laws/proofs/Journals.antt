@@ -15,9 +15,9 @@ use Rattle.table.specs.Check.{tableAnswer}
 use Rattle.table.proofs.Under.{under-passes, under-passed}
 use Rattle.records.specs.declared.Record.{Record}
 use Rattle.records.specs.declared.Record.the-variants.{Change, Poll, Test, Tick, End}
-use Rattle.records.specs.Form.{Form, journal}
+use Rattle.records.specs.Form.{Form, journal, short}
 use Rattle.records.specs.Encode.{kept, Recovers}
-use Rattle.records.proofs.Written.{journal-recovers}
+use Rattle.records.proofs.Written.{journal-recovers, short-recovers}
 use Rattle.records.proofs.Says.{keeps-all}
 use Rattle.machine.specs.declared.Machine.{Machine}
 use Rattle.machine.specs.Machine.{start, after}
@@ -112,24 +112,33 @@ module _ (F : Form) (valued : F .valued ≡ true) (t : Table) (s : List ℕ) (n 
 pub accepts-exactly : (F : Form) → AcceptsExactly F
 accepts-exactly F valued tells t s bytes n = (accepted-run F valued t s n tells bytes, run-accepted F valued t s n)
 
--- ---- The entry
+-- ---- The entries
 
-module _ (table s : List ℕ) where
-  pub under : (t : Table) → WellFormed t → table ≡ tables.encode t → answerIn journal t s ≡ checkOf table s
+module _ (F : Form) (table s : List ℕ) where
+  under-in : (t : Table) → WellFormed t → table ≡ tables.encode t → answerIn F t s ≡ checkIn F table s
   unfolding checkIn
-  under t ok is =
+  under-in t ok is =
       let h = holds-that-table table t ok is in
-      sym (under-passes TableRefused (λ x. answerIn journal x s) table (h .0) ∙ ap (λ x. answerIn journal x s) (h .1))
+      sym (under-passes TableRefused (λ x. answerIn F x s) table (h .0) ∙ ap (λ x. answerIn F x s) (h .1))
 
-  table-passes : (n : Numbers) → checkOf table s ≡ Accepted n → tableAnswer table ≡ Passes
+  table-passes : (n : Numbers) → checkIn F table s ≡ Accepted n → tableAnswer table ≡ Passes
   unfolding checkIn
-  table-passes n e = under-passed TableRefused (λ x. answerIn journal x s) table _ (λ a f. apart cc) e
+  table-passes n e = under-passed TableRefused (λ x. answerIn F x s) table _ (λ a f. apart cc) e
 
-pub checks-exactly : ChecksExactly
-checks-exactly table s table-bytes bytes n = (
+checks-in : (F : Form) → F .valued ≡ true → Recovers F → ChecksExactly F
+checks-in F valued tells table s table-bytes bytes n = (
   (λ e.
-      let p = passes-exactly table table-bytes .0 (table-passes table s n e) in
-      let answer = under table s (p .0) (p .1) (p .2) ∙ e in
-      (p .0, p .1, p .2, accepted-run journal refl (p .0) s n journal-recovers bytes answer)),
-  (λ p. sym (under table s (p .0) (p .1) (p .2)) ∙ run-accepted journal refl (p .0) s n (p .3)),
+      let p = passes-exactly table table-bytes .0 (table-passes F table s n e) in
+      let answer = under-in F table s (p .0) (p .1) (p .2) ∙ e in
+      (p .0, p .1, p .2, accepted-run F valued (p .0) s n tells bytes answer)),
+  (λ p. sym (under-in F table s (p .0) (p .1) (p .2)) ∙ run-accepted F valued (p .0) s n (p .3)),
 )
+
+pub under : (table s : List ℕ) (t : Table) → WellFormed t → table ≡ tables.encode t → answerIn journal t s ≡ checkOf table s
+under = under-in journal
+
+pub checks-exactly : ChecksExactly journal
+checks-exactly = checks-in journal refl journal-recovers
+
+pub checks-short-exactly : ChecksExactly short
+checks-short-exactly = checks-in short refl short-recovers

@@ -19,7 +19,7 @@ use Rattle.journal.specs.declared.Numbers.{Numbers}
 use Rattle.journal.specs.declared.Answer.the-variants.{Accepted}
 use Rattle.records.specs.Form.{Form, journal}
 use Rattle.records.specs.Encode.{WrittenAs, Recovers}
-use Rattle.journal.specs.Check.{answerIn, checkOf}
+use Rattle.journal.specs.Check.{answerIn, checkIn}
 
 -- ---- Bytes and records: records/specs/Encode states it for every form
 
@@ -49,7 +49,8 @@ abbrev pub AcceptsExactly : Form → Type 0
 AcceptsExactly F = F .valued ≡ true → Recovers F → (t : Table) (s : List ℕ) → Bytes s → (n : Numbers) →
     (answerIn F t s ≡ Accepted n) ↔ AcceptedRun F t s n
 
--- The entry accepts exactly the bytes of a well-formed table with a journal that the table's machine runs.
-abbrev pub ChecksExactly : Type 0
-ChecksExactly = (table s : List ℕ) → Bytes table → Bytes s → (n : Numbers) →
-    (checkOf table s ≡ Accepted n) ↔ ((t : Table) × WellFormed t × (table ≡ tables.encode t) × AcceptedRun journal t s n)
+-- On the bytes of a table: the check in this form accepts exactly those of a well-formed table with records that the table's machine runs.
+-- The check of a journal is this of the form `journal`, that of a short journal this of `short`.
+abbrev pub ChecksExactly : Form → Type 0
+ChecksExactly F = (table s : List ℕ) → Bytes table → Bytes s → (n : Numbers) →
+    (checkIn F table s ≡ Accepted n) ↔ ((t : Table) × WellFormed t × (table ≡ tables.encode t) × AcceptedRun F t s n)
