@@ -1,2 +1,4 @@
 pub mod OneMore
 pub mod Running
+pub mod Accepted
+pub mod Ahead

@@ -1,3 +1,4 @@
 pub mod Answer
 pub mod Check
 pub mod Progress
+pub mod Accepted

@@ -27,14 +27,16 @@ use Rattle.journal.specs.declared.Answer.the-variants as check
 use Rattle.journal.specs.Answer as journal-answer
 use Rattle.journal.specs.Answer.{listed}
 use Rattle.journal.specs.Check.{checkIn}
+use Rattle.journal.specs.Accepted.{AcceptedIn}
+use Rattle.journal.proofs.Accepted.{accepted}
+use Rattle.journal.proofs.Ahead.{not-too-long}
 use Rattle.restate.specs.declared.Answer.{Answer}
 use Rattle.restate.specs.declared.Answer.the-variants.{Written, TableRefused, TooLong, Refused, OldFormTooLong, BufferTooShort}
 use Rattle.restate.specs.Answer.{replyOf}
 use Rattle.restate.specs.Restate.{writtenIn, restated, withinLimit, shortenOf, lengthenOf}
 use Rattle.restate.proofs.Answer as AnswerT
-use Rattle.restate.specs.Accepted.{AcceptedIn}
-use Rattle.restate.proofs.Restating.{not-too-long, lengths}
-use Rattle.restate.proofs.Entries.{entryOf, under, accepted, table-refused, too-long, turned-down}
+use Rattle.restate.proofs.Restating.{lengths}
+use Rattle.restate.proofs.Entries.{entryOf, under, table-refused, too-long, turned-down}
 use Rattle.krossvil.specs.Host.{told, codeOf, journalTold, shortTold}
 use Rattle.krossvil.specs.Small.{LengthFits}
 use Rattle.krossvil.proofs.TablePlaces.{table-none, table-fits}
@@ -80,7 +82,7 @@ module _ (table s : List ℕ) (bytes : Bytes s) where
       go passes (ran input taken last) is by =
           let ok : AcceptedIn journal table s = record { passes = passes; input = input; taken = taken; last = last; through = is } in
           let l = lengths journal short refl refl journal-recovers table s ok bytes in
-          (refl, omega (arith, l .given, l .written, not-too-long journal short refl refl journal-recovers table s ok))
+          (refl, omega (arith, l .given, l .written, not-too-long journal table s ok))
       go passes tooLong is by = small (replyOf TooLong) (omega arith) (omega arith) refl
       go passes (walk.refused refusal place) is by = small (replyOf (Refused refusal place)) (refusal-small refusal) by refl
 
@@ -123,7 +125,7 @@ module _ (F : Form) (of : Run → Made Answer) (table s : List ℕ) where
   checked = told (journal-answer.replyOf (checkIn F table s)) 28
 
   accepted-zero : (code : ℕ) → code ≡ codeOf checked → code ≡ 0 → AcceptedIn F table s
-  accepted-zero code e zero = let a = zero-accepted F table s 28 (sym e ∙ zero) in accepted F of table s (a .n) (a .is)
+  accepted-zero code e zero = let a = zero-accepted F table s 28 (sym e ∙ zero) in accepted F table s (a .n) (a .is)
 
   -- Its refusals are passed up, and no buffer changes.
   passed-up : of tooLong ≡ made.refused TooLong → ((x : Refusal) (place : ℕ) → of (walk.refused x place) ≡ made.refused (Refused x place)) →

@@ -30,10 +30,12 @@ use Rattle.machine.proofs.RunsOver.{over-written, over-runs, runs-over}
 use Rattle.journal.specs.Check.{checkIn}
 use Rattle.restate.specs.declared.Answer.{Answer}
 use Rattle.restate.specs.declared.Answer.the-variants.{Written, OldFormTooLong}
-use Rattle.restate.specs.Accepted.{AcceptedIn}
+use Rattle.journal.specs.Accepted.{AcceptedIn}
+use Rattle.journal.proofs.Accepted.{check-accepts, accepted}
+use Rattle.journal.proofs.Ahead.{not-too-long}
 use Rattle.restate.specs.Restate.{writtenIn, restated, withinLimit, shortenOf, lengthenOf}
-use Rattle.restate.proofs.Entries.{check-accepts, entryOf, under, accepted, made-accepted}
-use Rattle.restate.proofs.Restating.{past-limit, within-limit, not-too-long, restated-is, given-is, lengths}
+use Rattle.restate.proofs.Entries.{entryOf, under, made-accepted}
+use Rattle.restate.proofs.Restating.{past-limit, within-limit, restated-is, given-is, lengths}
 use Rattle.laws.specs.Shorts.{GapsFit, SameRun, ShortenedSame, LengthenedSame, oldLength, JournalsComeBack, ShortsComeBack, OthersTooLong, ShortensWell}
 
 -- ---- The gaps of a run
@@ -44,7 +46,7 @@ looser most most′ before h (r ∷ rs) (low, high, spaced) = (low, omega arith,
 
 pub gaps-fit : GapsFit
 gaps-fit table j n e input rs end w =
-    let ok = accepted journal (restated short) table j n e in
+    let ok = accepted journal table j n e in
     let t = tableIn table in
     let o = over-written journal t j (ok .input) (ok .taken) (ok .last) input rs end w (ok .through) in
     let all : ok .taken ≡ rs ++ End end ∷ [] = sym (keeps-all journal refl (ok .taken)) ∙ o .1 in
@@ -111,7 +113,7 @@ module _ (table j : List ℕ) (bytes : Bytes j) (ok : AcceptedIn journal table j
   shorter-well : length shorter ≤ 49149
   shorter-well =
       let l = lengths journal short refl refl journal-recovers table j ok bytes in
-      omega (arith, l .given, l .written, not-too-long journal short refl refl journal-recovers table j ok)
+      omega (arith, l .given, l .written, not-too-long journal table j ok)
 
   few : length shorter ≤ short .most
   few = omega (arith, shorter-well)
@@ -143,9 +145,9 @@ shortens-well table j s answer bytes e =
 pub journals-come-back : JournalsComeBack
 unfolding lengthenOf
 journals-come-back table j n bytes e =
-    let ok = accepted journal (restated short) table j n e in
+    let ok = accepted journal table j n e in
     let back = comes-back journal short refl journal-recovers shorts-tell table j bytes ok (few table j bytes ok) in
-    let room = not-too-long journal short refl refl journal-recovers table j ok in (
+    let room = not-too-long journal table j ok in (
       shorter table j bytes ok,
       shortened table j bytes ok,
       sym (under short (λ r. withinLimit (restated journal r)) table (shorter table j bytes ok) (ok .passes)) ∙ within-limit _ _ j back room,
@@ -175,13 +177,13 @@ module _ (table s : List ℕ) (bytes : Bytes s) (ok : AcceptedIn short table s) 
 
 pub others-too-long : OthersTooLong
 others-too-long table s n bytes e h =
-    let ok = accepted short (λ r. withinLimit (restated journal r)) table s n e in
+    let ok = accepted short table s n e in
     not-lengthened table s bytes ok (omega (arith, old-length table s bytes ok))
 
 pub shorts-come-back : ShortsComeBack
 unfolding shortenOf
 shorts-come-back table s n bytes e h =
-    let ok = accepted short (λ r. withinLimit (restated journal r)) table s n e in
+    let ok = accepted short table s n e in
     let room : length (longer table s bytes ok) ≤ longestJournal = omega (arith, old-length table s bytes ok) in
     let back = comes-back short journal refl short-recovers journals-tell table s bytes ok room in (
       longer table s bytes ok,

@@ -1,3 +1,3 @@
 pub mod Answer
 pub mod Restate
-pub mod Accepted
+pub mod Short

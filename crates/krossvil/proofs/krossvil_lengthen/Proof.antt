@@ -3,7 +3,7 @@ use mathlib.Core.Path.{_≡_, ap}
 use Rattle.table.specs.Check.{tableIn}
 use Rattle.records.specs.Form.{journal, short}
 use Rattle.machine.specs.Walk.{runOver}
-use Rattle.restate.specs.Accepted.{AcceptedIn}
+use Rattle.journal.specs.Accepted.{AcceptedIn}
 use Rattle.restate.specs.Answer.{replyOf}
 use Rattle.restate.specs.Restate.{restated, withinLimit, lengthenOf}
 use Rattle.krossvil.proofs.Writers.{short-owed, long-owed}
