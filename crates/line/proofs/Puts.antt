@@ -43,6 +43,14 @@ puts-counts {after = after} {end = end} p =
     let long : end ≡ length (take end after) = rw (p .written) (omega arith) in
     (omega (arith, length-take end after), long)
 
+-- A text that fits into a buffer leaves its length.
+pub puts-length : {bytes before : List ℕ} {at : ℕ} {after : List ℕ} {end : ℕ} →
+    Puts bytes before at after end → at + length bytes ≤ length before → length after ≡ length before
+puts-length {bytes} {before} {at} {after} {end} p room =
+    let front = ap length (p .written) ∙ length-append (take at before) bytes in
+    let back = ap length (p .rest) in
+    omega (arith, length-take end after, length-take at before, length-drop end after, length-drop end before, p .ends)
+
 -- A line begins with its first number, and goes on with the others.
 pub line-more : (name : String) (names : List String) (n : ℕ) (numbers : List ℕ) →
     lineWith (name ∷ names) (n ∷ numbers) ≡ text name ++ decimal n ++ lineWith names numbers

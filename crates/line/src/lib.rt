@@ -10,7 +10,7 @@ use journal::Answer;
 use journal::Numbers;
 
 // Writes the text from `at` on, and gives back where it ends.
-fn put_text(out: &mut [u8], at: usize, text: &[u8]) -> usize
+pub fn put_text(out: &mut [u8], at: usize, text: &[u8]) -> usize
     requires { ⌜ at + length (now text) ≤ length (now out) ⌝ }
     ensures { λ r. ⌜ Puts (now (text .entry)) (now (out .entry)) at (now (out .exit)) r ⌝ }
 {
@@ -18,8 +18,8 @@ fn put_text(out: &mut [u8], at: usize, text: &[u8]) -> usize
 }
 
 // A number after its name, in the same way. Twenty digits hold any number of 64 bits.
-fn put_number(out: &mut [u8; 256], at: usize, name: &[u8], n: u64) -> usize
-    requires { ⌜ at + length (now name) + 20 ≤ 256 ⌝ }
+pub fn put_number(out: &mut [u8], at: usize, name: &[u8], n: u64) -> usize
+    requires { ⌜ at + length (now name) + 20 ≤ length (now out) ⌝ }
     ensures puts { λ r. ⌜ Puts (now (name .entry) ++ decimal n) (now (out .entry)) at (now (out .exit)) r ⌝ }
     ensures short { λ r. ⌜ r ≤ at + length (now (name .entry)) + 20 ⌝ }
 {
