@@ -178,9 +178,10 @@ static void make_run(struct input *in, bool irregular, size_t size, size_t recor
 
 /* ---- jobs ---- */
 
-enum job { CHECK_TABLE, CHECK_JOURNAL, CHECK_SHORT, RUN, REACTION };
+enum job { CHECK_TABLE, CHECK_JOURNAL, CHECK_SHORT, RUN, REACTION, REPORT_ADD };
 
 static uint8_t room[KROSSVIL_JOURNAL_MAX];
+static uint64_t sums[KROSSVIL_REPORT_MAX];
 
 static uint64_t call(enum job job, bool library, const struct input *in, uint8_t *answer)
 {
@@ -196,6 +197,10 @@ static uint64_t call(enum job job, bool library, const struct input *in, uint8_t
     case RUN:
         return (library ? krossvil_run : plain_run)(in->table, in->table_len, in->stimulus, in->stimulus_len, room,
                                                     sizeof room, answer, 4);
+    case REPORT_ADD:
+        sums[0] = 0; /* so that it is never full */
+        return (library ? krossvil_report_add : plain_report_add)(in->table, in->table_len, in->journal, in->journal_len,
+                                                                  sums, KROSSVIL_REPORT_MAX);
     default:
         return (library ? krossvil_reaction : plain_reaction)(in->table, in->table_len, in->states, in->inputs, answer, 8);
     }
@@ -204,25 +209,31 @@ static uint64_t call(enum job job, bool library, const struct input *in, uint8_t
 static size_t bytes_of(enum job job, const struct input *in)
 {
     switch (job) {
-    case CHECK_JOURNAL: return in->journal_len;
+    case CHECK_JOURNAL:
+    case REPORT_ADD: return in->journal_len;
     case CHECK_SHORT: return in->short_len;
     case RUN: return in->stimulus_len;
     default: return in->table_len;
     }
 }
 
-/* Both must give the same number, the same answer and, the runtime, the same journal; and nothing here is refused. */
+/* Both must give the same number, the same answer and the same journal or report; and nothing here is refused. */
 static void same_answers(enum job job)
 {
     static uint8_t first[KROSSVIL_JOURNAL_MAX];
+    static uint64_t first_sums[KROSSVIL_REPORT_MAX];
     for (int k = 0; k < ROTATION; k++) {
         uint8_t a[28] = { 0 }, b[28] = { 0 };
         memset(room, 0, sizeof room);
+        memset(sums, 0, sizeof sums);
         uint64_t x = call(job, true, &inputs[k], a);
         memcpy(first, room, sizeof room);
+        memcpy(first_sums, sums, sizeof sums);
         memset(room, 0, sizeof room);
+        memset(sums, 0, sizeof sums);
         uint64_t y = call(job, false, &inputs[k], b);
-        if (x != 0 || y != 0 || memcmp(a, b, sizeof a) != 0 || memcmp(first, room, sizeof room) != 0) {
+        if (x != 0 || y != 0 || memcmp(a, b, sizeof a) != 0 || memcmp(first, room, sizeof room) != 0 ||
+            memcmp(first_sums, sums, sizeof sums) != 0) {
             fprintf(stderr, "bench: the library and plain C differ\n");
             exit(1);
         }
@@ -359,8 +370,8 @@ int main(int argc, char **argv)
     runs(RUN, "runtime", "irregular", true, 0);
     tables(2, 2);
     tables(32, 32);
-    /* Irregular runs with timers, and then short journals. What is new comes last, so that the lines above it have the inputs that
-     * they had before. */
+    /* Irregular runs with timers, then short journals, then reports. What is new comes last, so that the lines above it have the
+     * inputs that they had before. */
     runs(CHECK_JOURNAL, "journal check", "1 timer", true, 1);
     runs(CHECK_JOURNAL, "journal check", "4 timers", true, 4);
     runs(RUN, "runtime", "1 timer", true, 1);
@@ -369,5 +380,8 @@ int main(int argc, char **argv)
     runs(CHECK_SHORT, "short check", "irregular", true, 0);
     runs(CHECK_SHORT, "short check", "1 timer", true, 1);
     runs(CHECK_SHORT, "short check", "4 timers", true, 4);
+    runs(REPORT_ADD, "report", "regular", false, 0);
+    runs(REPORT_ADD, "report", "irregular", true, 0);
+    runs(REPORT_ADD, "report", "4 timers", true, 4);
     return 0;
 }

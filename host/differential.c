@@ -21,6 +21,7 @@ uint64_t second_check_short(const uint8_t *, size_t, const uint8_t *, size_t, ui
 uint64_t second_shorten(const uint8_t *, size_t, const uint8_t *, size_t, uint8_t *, size_t, uint8_t *, size_t);
 uint64_t second_lengthen(const uint8_t *, size_t, const uint8_t *, size_t, uint8_t *, size_t, uint8_t *, size_t);
 uint64_t second_salvage(const uint8_t *, size_t, const uint8_t *, size_t, uint8_t *, size_t, uint8_t *, size_t);
+uint64_t second_report_add(const uint8_t *, size_t, const uint8_t *, size_t, uint64_t *, size_t);
 #define krossvil_check_table second_check_table
 #define krossvil_check_journal second_check_journal
 #define krossvil_run second_run
@@ -31,6 +32,7 @@ uint64_t second_salvage(const uint8_t *, size_t, const uint8_t *, size_t, uint8_
 #define krossvil_shorten second_shorten
 #define krossvil_lengthen second_lengthen
 #define krossvil_salvage second_salvage
+#define krossvil_report_add second_report_add
 #else
 #include "krossvil.h"
 #endif
@@ -456,7 +458,7 @@ static void draw_table(struct plan *plan, struct bytes *bytes, enum table_kind k
 /* ---- journals, stimuli, stamped and short journals ---- */
 
 /* What an entry takes beside the table, or writes. */
-enum form { JOURNAL, STIMULUS, STAMPED, SHORT, TABLE, NOTHING };
+enum form { JOURNAL, STIMULUS, STAMPED, SHORT, TABLE, REPORT, NOTHING };
 
 static const char *const form_names[] = { "journal", "stimulus", "stamped journal", "short journal" };
 static const size_t limits[] = { JOURNAL_LIMIT, STIMULUS_LIMIT, STAMPED_LIMIT, SHORT_LIMIT };
@@ -772,7 +774,10 @@ static void damage_pieces(const struct plan *plan, enum form form)
 
 /* ---- one case ---- */
 
-enum entry { CHECK_TABLE, CHECK_JOURNAL, RUN, REACTION, CONVERT_TABLE, READ_STAMPED, CHECK_SHORT, SHORTEN, LENGTHEN, SALVAGE, ENTRIES };
+enum entry {
+    CHECK_TABLE, CHECK_JOURNAL, RUN, REACTION, CONVERT_TABLE, READ_STAMPED, CHECK_SHORT, SHORTEN, LENGTHEN, SALVAGE, REPORT_ADD,
+    ENTRIES
+};
 
 static const struct {
     const char *name;
@@ -780,9 +785,9 @@ static const struct {
     size_t answer_size;
     unsigned share, damaged; /* percent: of the random cases, and how many of these have a damaged table */
 } entries[ENTRIES] = {
-    [CHECK_TABLE] = { "check_table", NOTHING, NOTHING, 0, 14, 65 },
-    [CHECK_JOURNAL] = { "check_journal", JOURNAL, NOTHING, 28, 21, 11 },
-    [RUN] = { "run", STIMULUS, JOURNAL, 4, 19, 12 },
+    [CHECK_TABLE] = { "check_table", NOTHING, NOTHING, 0, 13, 65 },
+    [CHECK_JOURNAL] = { "check_journal", JOURNAL, NOTHING, 28, 19, 11 },
+    [RUN] = { "run", STIMULUS, JOURNAL, 4, 17, 12 },
     [REACTION] = { "reaction", NOTHING, NOTHING, 8, 12, 14 },
     [CONVERT_TABLE] = { "convert_table", NOTHING, TABLE, 4, 7, 45 },
     [READ_STAMPED] = { "read_stamped", STAMPED, JOURNAL, 4, 7, 0 },
@@ -790,6 +795,7 @@ static const struct {
     [SHORTEN] = { "shorten", JOURNAL, SHORT, 4, 5, 30 },
     [LENGTHEN] = { "lengthen", SHORT, JOURNAL, 4, 5, 30 },
     [SALVAGE] = { "salvage", JOURNAL, JOURNAL, 16, 5, 20 },
+    [REPORT_ADD] = { "report_add", JOURNAL, REPORT, 0, 5, 25 },
 };
 
 /* Entries of one shape, the reference's and the library's. */
@@ -809,16 +815,21 @@ struct call {
     enum entry entry;
     const struct bytes *table, *input; /* input: what it takes beside the table */
     uint32_t states, inputs;
-    size_t output_len, answer_len; /* output: what it writes beside the answer */
+    size_t output_len, answer_len; /* in bytes; output: what it writes beside the answer */
+    const uint64_t *report;        /* what stands in an output of numbers beforehand, or NULL: anything */
     const struct bytes *right;     /* the output that a success must have, where that is known beforehand, or NULL */
 };
 
 enum { GUARD = 64 };
 
 struct lent {
-    size_t len, before; /* guard bytes before it: their number shifts it by a few bytes */
+    size_t len, before; /* guard bytes before it: their number shifts it by a few bytes, one of numbers by a whole number */
     uint8_t salt;
-    uint8_t at[ROOM + 2 * GUARD];
+    const uint8_t *content; /* what stands in it, or NULL: bytes by the salt */
+    union {
+        uint8_t at[ROOM + 2 * GUARD];
+        uint64_t numbers[(ROOM + 2 * GUARD) / 8];
+    };
 };
 
 struct side {
@@ -829,25 +840,29 @@ struct side {
 
 static struct side reference_side, library_side;
 
-static uint8_t fill(uint8_t salt, size_t at)
+/* What was lent: the content, and around it guard bytes. */
+static uint8_t fill(const struct lent *lent, size_t at)
 {
-    return (uint8_t)(salt + 37 * at + (at >> 8));
+    if (lent->content != NULL && at >= lent->before && at < lent->before + lent->len)
+        return lent->content[at - lent->before];
+    return (uint8_t)(lent->salt + 37 * at + (at >> 8));
 }
 
-static void lend(struct lent *lent, size_t len, size_t before, uint8_t salt)
+static void lend(struct lent *lent, size_t len, size_t before, uint8_t salt, const uint64_t *content)
 {
     lent->len = len;
     lent->before = before;
     lent->salt = salt;
+    lent->content = (const uint8_t *)content;
     for (size_t k = 0; k < len + 2 * GUARD; k++)
-        lent->at[k] = fill(salt, k);
+        lent->at[k] = fill(lent, k);
 }
 
 /* The first byte that differs from what was lent, from byte `from` of the buffer on, or in the guard; SIZE_MAX: none. */
 static size_t touched(const struct lent *lent, size_t from)
 {
     for (size_t k = 0; k < lent->len + 2 * GUARD; k++)
-        if ((k < lent->before || k >= lent->before + from) && lent->at[k] != fill(lent->salt, k))
+        if ((k < lent->before || k >= lent->before + from) && lent->at[k] != fill(lent, k))
             return k;
     return SIZE_MAX;
 }
@@ -891,6 +906,10 @@ static void call_side(const struct call *call, bool library, struct side *side)
         side->returned = (library ? krossvil_read_stamped : reference_read_stamped)(input, input_len, output,
                                                                                     output_len, answer, answer_len);
         break;
+    case REPORT_ADD:
+        side->returned = (library ? krossvil_report_add : reference_report_add)(
+            table, table_len, input, input_len, side->output.numbers + side->output.before / 8, output_len / 8);
+        break;
     default:
         side->returned = rewrites[call->entry][library](table, table_len, input, input_len, output, output_len, answer,
                                                         answer_len);
@@ -922,13 +941,24 @@ static size_t length_by(enum entry entry, const uint8_t *answer)
     return number_in(answer, 0) + (end_added ? field_size(END, JOURNAL) : 0);
 }
 
+/* How many numbers a report has under a table that passes. */
+static size_t report_size(const struct bytes *sound_table)
+{
+    size_t states = sound_table->at[3], inputs_of_state = sound_table->at[4];
+    return 1 + 2 * states + states * inputs_of_state;
+}
+
 /* How many bytes of its output buffer a side has to fill. */
 static size_t output_size(const struct call *call, const struct side *side)
 {
-    if (side->returned != 0 || entries[call->entry].writes == NOTHING)
+    if (side->returned != 0)
         return 0;
-    return entries[call->entry].writes == TABLE ? call->table->len
-                                                : length_by(call->entry, side->answer.at + side->answer.before);
+    switch (entries[call->entry].writes) {
+    case NOTHING: return 0;
+    case TABLE: return call->table->len;
+    case REPORT: return 8 * report_size(call->table);
+    default: return length_by(call->entry, side->answer.at + side->answer.before);
+    }
 }
 
 /* What must hold of a salvaged journal, by the journal check of the reference. */
@@ -951,8 +981,37 @@ static const char *badly_salvaged(const struct call *call, const struct side *si
     return NULL;
 }
 
+/* What must hold of a report that a journal was added to, by the answer of the reference's journal check: the dwell sums to T, the pairs
+ * of a state to its dwell, and there is an entry for each move and one for the initial state. All sums are modulo 2^64. */
+static const char *badly_added(const struct call *call, const struct side *side)
+{
+    const uint64_t *after = side->output.numbers + side->output.before / 8, *before = call->report;
+    size_t states = call->table->at[3], inputs_of_state = call->table->at[4];
+    uint64_t dwell = 0, entered = 0;
+    uint8_t answer[28];
+    if (before == NULL)
+        return "success with a first number that was not known";
+    if (reference_check_journal(call->table->at, call->table->len, call->input->at, call->input->len, answer, sizeof answer) != 0)
+        return "a journal was added that is not accepted";
+    if (before[0] >= 1000 || after[0] != before[0] + 1)
+        return "the journal was not counted, or one too many was taken";
+    for (size_t q = 0; q < states; q++) {
+        uint64_t of_state = after[1 + q] - before[1 + q];
+        dwell += of_state;
+        for (size_t a = 0, at = 1 + states + q * inputs_of_state; a < inputs_of_state; a++)
+            of_state -= after[at + a] - before[at + a];
+        if (of_state != 0)
+            return "the pairs of a state do not sum to its dwell";
+        size_t at = 1 + states + states * inputs_of_state + q;
+        entered += after[at] - before[at];
+    }
+    if (dwell != number_in(answer, 0))
+        return "the dwell does not sum to T";
+    return entered == 1 + (uint64_t)number_in(answer, 2) ? NULL : "the entries are not the moves and the first one";
+}
+
 /* What must hold of one side by itself: a refusal changes nothing, a success nothing past the answer and the output, a
- * new table passes, a salvaged journal is accepted, and the output is right where that is known. */
+ * new table passes, a salvaged journal is accepted, a report has the right sums, and the output is right where that is known. */
 static const char *broken(const struct call *call, const struct side *side)
 {
     bool success = side->returned == 0;
@@ -974,6 +1033,8 @@ static const char *broken(const struct call *call, const struct side *side)
     if (success && call->right != NULL &&
         (written != call->right->len || memcmp(side->output.at + side->output.before, call->right->at, written) != 0))
         return "the output is not the right one";
+    if (success && call->entry == REPORT_ADD)
+        return badly_added(call, side);
     return success && call->entry == SALVAGE ? badly_salvaged(call, side, written) : NULL;
 }
 
@@ -986,7 +1047,7 @@ static size_t differs_at(const struct lent *a, const struct lent *b)
 }
 
 static uint64_t passed, mismatches;
-enum { NUMBERS = 35 }; /* one more than the largest of a refusal */
+enum { NUMBERS = 36 }; /* one more than the largest of a refusal */
 static uint64_t histogram[ENTRIES][NUMBERS], other_numbers;
 
 static void print_bytes(const char *name, const uint8_t *bytes, size_t len)
@@ -1027,11 +1088,13 @@ static void print_case(const char *label, const struct call *call, const char *r
         printf("  states %08" PRIX32 ", inputs %08" PRIX32 "\n", call->states, call->inputs);
     if (entries[call->entry].writes != NOTHING) {
         printf("  output buffer of %zu bytes\n", call->output_len);
+        if (call->report != NULL)
+            print_bytes("report beforehand", (const uint8_t *)call->report, call->output_len);
         if (reference_side.returned == 0)
             print_bytes("reference's output", reference_side.output.at + reference_side.output.before,
                         output_size(call, &reference_side));
     }
-    if (call->entry != CHECK_TABLE) {
+    if (entries[call->entry].answer_size > 0) {
         print_bytes("reference's answer buffer", reference_side.answer.at + reference_side.answer.before,
                     call->answer_len);
         print_bytes("library's answer buffer", library_side.answer.at + library_side.answer.before, call->answer_len);
@@ -1041,12 +1104,12 @@ static void print_case(const char *label, const struct call *call, const char *r
 /* Calls both sides and compares; `wanted`, if given, is what both must say: the value, then the numbers. Returns whether all is well. */
 static bool compare(const char *label, const struct call *call, const uint64_t *wanted)
 {
-    size_t before = GUARD - below(8);
+    size_t shift = below(8), before = GUARD - (entries[call->entry].writes == REPORT ? shift % 2 * 8 : shift);
     uint8_t salt = (uint8_t)below(256);
-    lend(&reference_side.output, call->output_len, before, salt);
-    lend(&library_side.output, call->output_len, before, salt);
-    lend(&reference_side.answer, call->answer_len, before, salt);
-    lend(&library_side.answer, call->answer_len, before, salt);
+    lend(&reference_side.output, call->output_len, before, salt, call->report);
+    lend(&library_side.output, call->output_len, before, salt, call->report);
+    lend(&reference_side.answer, call->answer_len, before, salt, NULL);
+    lend(&library_side.answer, call->answer_len, before, salt, NULL);
     call_side(call, false, &reference_side);
     call_side(call, true, &library_side);
 
@@ -1235,8 +1298,11 @@ static size_t exact_output(enum entry entry)
     return refused != 0 ? below(300) : length_by(entry, answer);
 }
 
-/* Accepted journals that came back: from the form that the entry reads or writes, or what it had salvaged from it. */
+/* Accepted journals that came back: from the form that the entry reads or writes, or what it had salvaged from it. Of reports, those
+ * that several journals were added to in two orders. */
 static uint64_t came_back[ENTRIES];
+
+static uint64_t counted_twice; /* journals that the reference has counted slot by slot and stretch by stretch */
 
 static bool accepts_other_form(void)
 {
@@ -1292,6 +1358,107 @@ static void salvage_again(const char *label, const struct call *first)
     compare(label, &again, NULL); /* by the reference it was accepted above */
 }
 
+enum { REPORT_ROOM = 2048 }; /* numbers: more than the largest report has */
+
+/* By the table's counts, which may be damaged. */
+static size_t draw_report_len(void)
+{
+    size_t exact = table.len > 4 && table.at[3] <= 32 && table.at[4] <= 32 ? report_size(&table) : 1;
+    switch (below(12)) {
+    case 0: return 0;
+    case 1: return 1;
+    case 2: return exact - 1;
+    case 3: return below((uint32_t)exact);
+    case 4: return exact + 1;
+    case 5: return exact + below(100);
+    default: return exact;
+    }
+}
+
+/* Numbers that are small, at the end of 32 bits or of 64, or any. */
+static uint64_t draw_sum(void)
+{
+    switch (below(5)) {
+    case 0: return 0;
+    case 1: return below(1000000);
+    case 2: return 0xFFFFFFFFu - below(20);
+    case 3: return UINT64_MAX - below(20);
+    default: return draw64();
+    }
+}
+
+static uint64_t draw_journals(void)
+{
+    static const uint64_t corners[] = { 998, 999, 1000, 1001, 0x100000000u, 0x8000000000000000u, UINT64_MAX - 1, UINT64_MAX };
+    return percent(50) ? 0 : percent(50) ? below(1000) : percent(70) ? corners[below(8)] : draw64();
+}
+
+static void draw_report(uint64_t *report)
+{
+    bool zeros = percent(40);
+    for (size_t k = 0; k < REPORT_ROOM; k++)
+        report[k] = zeros ? 0 : draw_sum();
+    report[0] = draw_journals();
+}
+
+/* The reference against itself: the slots, where they are few enough to be counted, and the stretches. */
+static void count_twice(const char *label)
+{
+    static uint64_t by_slots[REPORT_ROOM], by_stretches[REPORT_ROOM];
+    size_t size = reference_tally(table.at, table.len, input.at, input.len, BY_SLOTS, by_slots);
+    if (size == 0)
+        return;
+    counted_twice++;
+    if (reference_tally(table.at, table.len, input.at, input.len, BY_STRETCHES, by_stretches) != size ||
+        memcmp(by_slots, by_stretches, 8 * size) != 0) {
+        if (mismatches == 0) {
+            printf("first mismatch: %s: the reference counts otherwise by slots than by stretches\n", label);
+            print_bytes("table", table.at, table.len);
+            print_bytes("journal", input.at, input.len);
+        }
+        mismatches++;
+    }
+}
+
+/* Adds journals to a report in this order, one after another; returns how many were taken. */
+static unsigned add_all(const char *label, const struct bytes *journals, const unsigned *order, size_t count, uint64_t *report)
+{
+    struct call call = { .entry = REPORT_ADD, .table = &table, .output_len = 8 * report_size(&table), .report = report };
+    unsigned taken = 0;
+    for (size_t k = 0; k < count; k++) {
+        call.input = &journals[order[k]];
+        compare(label, &call, NULL);
+        taken += library_side.returned == 0;
+        memcpy(report, library_side.output.at + library_side.output.before, call.output_len);
+    }
+    return taken;
+}
+
+/* After a success of REPORT_ADD: that journal and two more under the same table, sound or not, are added in two orders. */
+static void add_in_two_orders(const char *label, const struct plan *plan)
+{
+    static const unsigned orders[][3] = { { 0, 1, 2 }, { 0, 2, 1 }, { 1, 0, 2 }, { 1, 2, 0 }, { 2, 0, 1 }, { 2, 1, 0 } };
+    static struct bytes journals[3];
+    static uint64_t first[REPORT_ROOM], second[REPORT_ROOM];
+    for (size_t k = 0; k < 3; k++) {
+        journals[k].len = input.len;
+        memcpy(journals[k].at, input.at, input.len);
+        draw_input(plan, JOURNAL, NOTHING);
+    }
+    draw_report(first);
+    first[0] = percent(70) ? below(997) : 997;
+    memcpy(second, first, sizeof first);
+    unsigned taken = add_all(label, journals, orders[0], 3, first);
+    add_all(label, journals, orders[1 + below(5)], 3, second);
+    if (taken > 1)
+        came_back[REPORT_ADD]++;
+    if (memcmp(first, second, sizeof first) != 0) {
+        if (mismatches == 0)
+            printf("first mismatch: %s: journals added in another order give another report\n", label);
+        mismatches++;
+    }
+}
+
 static enum entry draw_entry(void)
 {
     unsigned lot = below(100), entry = CHECK_TABLE;
@@ -1303,6 +1470,7 @@ static enum entry draw_entry(void)
 static void random_case(uint64_t seed, uint64_t number)
 {
     static struct plan plan;
+    static uint64_t report[REPORT_ROOM];
     struct call call = { .table = &table, .input = &input };
     char label[64];
 
@@ -1312,8 +1480,9 @@ static void random_case(uint64_t seed, uint64_t number)
     enum form takes = entries[call.entry].takes, writes = entries[call.entry].writes;
     draw_table(&plan, &table, draw_kind(call.entry), percent(entries[call.entry].damaged));
     input.len = 0;
-    bool sound = takes != NOTHING && draw_input(&plan, takes, writes);
-    if (sound && writes != NOTHING && call.entry != RUN && call.entry != SALVAGE) /* theirs go by the table, which may be damaged */
+    bool rewritten = writes != NOTHING && writes != REPORT;
+    bool sound = takes != NOTHING && draw_input(&plan, takes, rewritten ? writes : NOTHING);
+    if (sound && rewritten && call.entry != RUN && call.entry != SALVAGE) /* theirs go by the table, which may be damaged */
         call.right = &other_form;
     if (call.entry == SALVAGE)
         tear();
@@ -1327,9 +1496,15 @@ static void random_case(uint64_t seed, uint64_t number)
         if (percent(4))
             call.states = (uint32_t)draw64();
     }
-    if (writes != NOTHING)
+    if (rewritten)
         call.output_len = draw_output_len(exact_output(call.entry));
-    call.answer_len = call.entry == CHECK_TABLE ? 0 : draw_answer_len(entries[call.entry].answer_size);
+    if (writes == REPORT) {
+        call.output_len = 8 * draw_report_len();
+        draw_report(report);
+        call.report = report;
+        count_twice(label);
+    }
+    call.answer_len = entries[call.entry].answer_size == 0 ? 0 : draw_answer_len(entries[call.entry].answer_size);
     if (!compare(label, &call, NULL) || library_side.returned != 0)
         return;
     if (call.entry == READ_STAMPED && call.right != NULL && accepts_other_form())
@@ -1338,6 +1513,8 @@ static void random_case(uint64_t seed, uint64_t number)
         turn_back(label, &call);
     if (call.entry == SALVAGE)
         salvage_again(label, &call);
+    if (call.entry == REPORT_ADD)
+        add_in_two_orders(label, &plan);
 }
 
 /* ---- the paper's cases ---- */
@@ -1997,6 +2174,135 @@ static void last_cut_cases(void)
     compare_salvage("nothing but changes", (const uint64_t[]){ 0, 4, 65532, 20, 65532 });
 }
 
+/* What an accepted journal under the classroom's table adds to a report, and what is wanted of one that is refused. */
+struct added {
+    const char *journal;
+    uint64_t wanted, numbers[9]; /* journals; slots in 0, 1; in 0 with 0, 1, in 1 with 0, 1; entries into 0, 1 */
+};
+
+enum { CLASSROOM_REPORT = 9 };
+
+/* Reports of each of these lengths with each of these first numbers, the others all alike; the journal is in `input`. */
+static void compare_reports(const char *label, const struct added *added)
+{
+    static const size_t lengths[] = { 0, 1, 2, CLASSROOM_REPORT - 1, CLASSROOM_REPORT, CLASSROOM_REPORT + 1, 40 };
+    static const uint64_t firsts[] = { 0, 1, 998, 999, 1000, 1001, 0x1000003E8u, UINT64_MAX };
+    static const uint64_t others[] = { 0, 7, 0xFFFFFFFFu, UINT64_MAX - 2, UINT64_MAX };
+    static struct bytes sums;
+    uint64_t report[40], after[CLASSROOM_REPORT];
+    struct call call = { .entry = REPORT_ADD, .table = &table, .input = &input, .report = report, .right = &sums };
+    for (size_t case_number = 0; case_number < 7 * 8; case_number++) {
+        size_t len = lengths[case_number % 7];
+        report[0] = firsts[case_number / 7];
+        for (size_t k = 1; k < 40; k++)
+            report[k] = others[case_number % 5];
+        for (size_t k = 0; k < CLASSROOM_REPORT; k++)
+            after[k] = report[k] + added->numbers[k];
+        memcpy(sums.at, after, sums.len = sizeof after);
+        call.output_len = 8 * len;
+        uint64_t wanted = added->wanted != 0       ? added->wanted
+                          : len == 0               ? REFUSED(30, 0)
+                          : report[0] >= 1000      ? REFUSED(35, 0)
+                          : len < CLASSROOM_REPORT ? REFUSED(30, 0)
+                                                   : 0;
+        compare(label, &call, &wanted);
+    }
+}
+
+/* Under the classroom's table with the hold or with the timer. */
+static void report_cases(const struct plan *plan)
+{
+    static const struct added journals[] = {
+        { "I0 e0", 0, { 1, 0, 0, 0, 0, 0, 0, 1, 0 } },
+        { "I1 e3", 0, { 1, 3, 0, 0, 3, 0, 0, 1, 0 } },
+        { RUN_TO_3 "p7,0 t8,0 k9,1 p10,0 t10,1 k11,0 e12", 0, { 1, 4, 8, 2, 2, 8, 0, 2, 1 } },
+        { "I0 p1,0 t1,1 k3,0 e3", 0, { 1, 3, 0, 3, 0, 0, 0, 1, 0 } },         /* a tick to the same state */
+        { "I1 p1,1 t1,1 k3,1 e3", 0, { 1, 3, 0, 0, 3, 0, 0, 1, 1 } },         /* an entry at T, and no slot of it */
+        { "I1 p1,1 t1,1 k2,1 e3", 0, { 1, 2, 1, 0, 2, 0, 1, 1, 1 } },
+        { "I0 c0,1 e2", 0, { 1, 2, 0, 0, 2, 0, 0, 1, 0 } },                   /* a change at 0 */
+        { "I0 c2,1 e2", 0, { 1, 2, 0, 2, 0, 0, 0, 1, 0 } },                   /* and at T */
+        { "I0 c1,1 c1,0 c1,1 e2", 0, { 1, 2, 0, 1, 1, 0, 0, 1, 0 } },
+        { "I0 p1,0 c1,1 t2,1 k2,0 e3", 0, { 1, 3, 0, 1, 2, 0, 0, 1, 0 } },    /* another input than the polled one */
+        { "I1 p1,1 t1,1 k1,1 p2,1 t2,1 k2,1 c2,0 c3,1 e5", 0, { 1, 1, 4, 0, 1, 1, 3, 1, 1 } },
+        { RUN_TO_3 "p7,0 t8,1 k9,1 p10,0 t10,1 k11,0 e12", REFUSED(28, 76), { 0 } },
+        { RUN_TO_3, REFUSED(20, 68), { 0 } },
+        { "", REFUSED(20, 0), { 0 } },
+        { "I0 p1,0 t1,1 k4,0 e4", REFUSED(25, 20), { 0 } },
+        { "I0 e0 e0", REFUSED(22, 11), { 0 } },
+        { "I2 e0", REFUSED(23, 0), { 0 } },
+        { "I0 c2,1 c1,0 e2", REFUSED(24, 12), { 0 } },
+        { "I0 t1,1 e2", REFUSED(26, 4), { 0 } },
+        { "I0 c1,1 p1,1 e1", REFUSED(27, 12), { 0 } },
+    };
+    size_t starts[6];
+    char label[64];
+
+    write_table(plan, 2, 2, &table, starts);
+    for (size_t k = 0; k < sizeof journals / sizeof *journals; k++) {
+        snprintf(label, sizeof label, "journal %zu, added", k);
+        read_pieces(journals[k].journal);
+        write_pieces(JOURNAL, &input);
+        compare_reports(label, &journals[k]);
+        uint64_t before = counted_twice;
+        count_twice(label);
+        expect(counted_twice - before == (journals[k].wanted == 0), "a short journal was not counted by slots");
+    }
+    table.len--;
+    compare_reports("a journal added under half a table", &(struct added){ "", REFUSED(1, 37), { 0 } });
+    table.len++;
+    for (input.len = 0; input.len < JOURNAL_LIMIT + 1;)
+        add(&input, 0x11);
+    compare_reports("a journal that is too long, added", &(struct added){ "", REFUSED(19, 0), { 0 } });
+}
+
+/* The classroom's journal until the report is full, and once more. */
+static void full_report_case(void)
+{
+    uint64_t report[CLASSROOM_REPORT] = { 0 };
+    const uint64_t thousand[CLASSROOM_REPORT] = { 1000, 4000, 8000, 2000, 2000, 8000, 0, 2000, 1000 };
+    const unsigned first[] = { 0 };
+    struct plan plan = classroom();
+    size_t starts[6];
+    unsigned taken = 0;
+    uint64_t passed_before = passed;
+
+    write_table(&plan, 2, 2, &table, starts);
+    read_pieces(RUN_TO_3 "p7,0 t8,0 k9,1 p10,0 t10,1 k11,0 e12");
+    write_pieces(JOURNAL, &input);
+    for (unsigned k = 0; k < 1001; k++)
+        taken += add_all("the report filled", &input, first, 1, report);
+    passed = passed_before; /* together they are the two assertions below */
+    expect(taken == 1000 && library_side.returned == REFUSED(35, 0), "the report did not take 1,000 journals and no more");
+    expect(memcmp(report, thousand, sizeof report) == 0, "the report of 1,000 journals is not 1,000 times that of one");
+}
+
+/* The longest journal: its sums pass 32 bits after 27 times. */
+static void long_report_case(void)
+{
+    uint64_t report[CLASSROOM_REPORT] = { 0 };
+    const uint64_t thirty[CLASSROOM_REPORT] = { 30, 4914000000u, 0, 4914000000u, 0, 0, 0, 30, 0 };
+    const unsigned first[] = { 0 };
+    struct plan plan = classroom();
+    size_t starts[6];
+
+    plan.bound = 60000;
+    write_table(&plan, 2, 2, &table, starts);
+    take_long_cycles(MOST_RECORDS);
+    write_pieces(JOURNAL, &input);
+    for (unsigned k = 0; k < 30; k++)
+        add_all("the longest journal added", &input, first, 1, report);
+    expect(memcmp(report, thirty, sizeof report) == 0, "the report of 30 long journals is not 30 times that of one");
+}
+
+static void all_report_cases(void)
+{
+    struct plan plan = classroom(), with_timer = classroom_with_timer();
+    report_cases(&plan);
+    report_cases(&with_timer);
+    full_report_case();
+    long_report_case();
+}
+
 /* ---- the whole ---- */
 
 static bool can_give(enum entry entry, unsigned number)
@@ -2017,7 +2323,7 @@ static bool can_give(enum entry entry, unsigned number)
         return entries[entry].takes == JOURNAL || entries[entry].takes == STIMULUS; /* a gap is never below 0 */
     if (number >= 19 && number <= 28)
         return entries[entry].takes != NOTHING && !(entry == RUN && number == 28);
-    return entry == LENGTHEN && number == 34;
+    return (entry == LENGTHEN && number == 34) || (entry == REPORT_ADD && number == 35);
 }
 
 /* How many numbers that an entry can give stayed away; those that came are added to `seen`. */
@@ -2066,6 +2372,7 @@ static uint64_t print_came_back(uint64_t *seen)
         { SHORTEN, "shortened and lengthened" },
         { LENGTHEN, "short ones, lengthened and shortened" },
         { SALVAGE, "salvaged ones, salvaged again" },
+        { REPORT_ADD, "several of them added in two orders" },
     };
     uint64_t away = 0;
     for (size_t k = 0; k < sizeof ways / sizeof *ways; k++) {
@@ -2075,6 +2382,11 @@ static uint64_t print_came_back(uint64_t *seen)
         else
             ++*seen;
     }
+    printf("accepted journals, counted by slots and by stretches: %" PRIu64 "\n", counted_twice);
+    if (counted_twice == 0)
+        away++;
+    else
+        ++*seen;
     return away;
 }
 
@@ -2105,6 +2417,7 @@ int main(int argc, char **argv)
     torn_cases();
     salvage_cases();
     last_cut_cases();
+    all_report_cases();
     uint64_t asserted = passed, wrong = mismatches;
     for (uint64_t number = 0; number < cases; number++)
         random_case(seed, number);

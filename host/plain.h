@@ -15,6 +15,9 @@ uint64_t plain_check_journal(const uint8_t *table, size_t table_len, const uint8
 uint64_t plain_check_short(const uint8_t *table, size_t table_len, const uint8_t *short_journal, size_t short_len,
                            uint8_t *answer, size_t answer_len);
 
+uint64_t plain_report_add(const uint8_t *table, size_t table_len, const uint8_t *journal, size_t journal_len, uint64_t *report,
+                          size_t report_len);
+
 uint64_t plain_run(const uint8_t *table, size_t table_len, const uint8_t *stimulus, size_t stimulus_len,
                    uint8_t *journal, size_t journal_len, uint8_t *answer, size_t answer_len);
 

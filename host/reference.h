@@ -1,4 +1,4 @@
-/* A second implementation of the ten entries in plain C, written from the rules alone. The library is
+/* A second implementation of the eleven entries in plain C, written from the rules alone. The library is
  * held against it. Each entry returns 0, or refusal number * 2^32 + place; on success the answer's numbers stand at
  * the start of `answer`, four bytes each, most significant byte first.
  *
@@ -12,6 +12,7 @@
  *   shorten        the short journal's length
  *   lengthen       the journal's length
  *   salvage        bytes kept, bytes dropped, number and place of the refusal that stopped it
+ *   report_add     no answer: the numbers of a report are added to
  *
  * With SECOND defined the same entries get the prefix second_, so that two builds can be linked into one program. */
 #ifndef REFERENCE_H
@@ -31,6 +32,8 @@
 #define reference_shorten second_shorten
 #define reference_lengthen second_lengthen
 #define reference_salvage second_salvage
+#define reference_report_add second_report_add
+#define reference_tally second_tally
 #endif
 
 uint64_t reference_check_table(const uint8_t *table, size_t table_len);
@@ -61,5 +64,15 @@ uint64_t reference_lengthen(const uint8_t *table, size_t table_len, const uint8_
 
 uint64_t reference_salvage(const uint8_t *table, size_t table_len, const uint8_t *journal, size_t journal_len,
                            uint8_t *salvaged, size_t salvaged_len, uint8_t *answer, size_t answer_len);
+
+uint64_t reference_report_add(const uint8_t *table, size_t table_len, const uint8_t *journal, size_t journal_len,
+                              uint64_t *report, size_t report_len);
+
+/* What a journal adds to a report, 1,089 places at most: counted slot by slot, which is what the rules say, or stretch by stretch from
+ * one record to the next. Returns how many numbers there are; 0 if the journal is refused, or is too long to be counted in this way. */
+enum counting { BY_SLOTS, BY_STRETCHES };
+
+size_t reference_tally(const uint8_t *table, size_t table_len, const uint8_t *journal, size_t journal_len,
+                       enum counting counting, uint64_t *numbers);
 
 #endif

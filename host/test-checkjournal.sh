@@ -86,6 +86,9 @@ same 'the old table was converted to the classroom table' examples/idle-sets/tab
 same 'the short journal has the classroom table' examples/short-journal/table.bin examples/classroom/table.bin
 same 'the short journal was made of the classroom journal' examples/short-journal/journal.bin examples/classroom/journal.bin
 same 'the torn journal has the classroom table' examples/torn-journal/table.bin examples/classroom/table.bin
+same 'the season has the classroom table' examples/season/table.bin examples/classroom/table.bin
+same 'the early shift is the classroom run' examples/season/early.bin examples/classroom/journal.bin
+same 'the torn journal of the season is the torn journal' examples/season/torn.bin examples/torn-journal/torn.bin
 
 # ---- The runs of the classroom table
 
@@ -133,6 +136,12 @@ fresh
 cp "$root/examples/torn-journal/table.bin" .
 cp "$root/examples/torn-journal/salvaged.bin" journal.bin
 prints 'what is salvaged from it' 'accepted end=9 cycles=3 moves=1 state=1 output=1 left=4 longest=3'
+
+# ---- The other shift of the season
+
+fresh
+cp "$root/examples/season/late.bin" journal.bin
+prints 'the late shift, with a tick at its end' 'accepted end=10 cycles=5 moves=3 state=1 output=1 left=2 longest=3'
 
 # ---- Tables with timers
 

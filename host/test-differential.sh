@@ -97,7 +97,7 @@ fi
 called=("$library")
 if [ "$self" = yes ]; then
     called=("$out/differential-second.o")
-    for entry in check_table check_journal run reaction convert_table read_stamped check_short shorten lengthen salvage; do
+    for entry in check_table check_journal run reaction convert_table read_stamped check_short shorten lengthen salvage report_add; do
         called+=("-Dkrossvil_$entry=second_$entry")
     done
 fi
@@ -173,6 +173,34 @@ rewrites "$salvage" examples/short-clock/stamped.bin 'kept=4 dropped=89 refused 
 rewrites "$salvage" "$out/no-opening.bin" 'refused 20 at 0' "$out/no-opening.bin"
 rewrites "$salvage" examples/short-journal/short.bin 'refused 21 at 0' examples/short-journal/short.bin
 rewrites 'salvage examples/idle-sets/old-table.bin' examples/torn-journal/torn.bin 'refused 11 at 40' examples/torn-journal/torn.bin
+
+echo "== the example of a season"
+compile examples/season.c "${called[@]}" "${link[@]}" -o "$out/season" || stop "did not build"
+report_of() { # FILE: the report in what the example printed, without the lines of the journals
+    sed -n '/^journals=/,$p' "$1"
+}
+season() { # STATUS PRINTED WORDS: in examples/season, run with these words, it ends with the status and prints this file
+    local status=$1 printed=$2 log="$PWD/$out/season.log" program="$PWD/$out/season"
+    shift 2
+    (cd examples/season && "${run[@]}" "$program" "$@") >"$log"
+    if [ "$?" -eq "$status" ] && diff "$printed" "$log"; then
+        cat "$log"
+        passed=$((passed + 1))
+    else
+        echo "season $*: it did not end with status $status, or printed something else than $printed"
+        failed=$((failed + 1))
+    fi
+}
+{ echo 'late.bin: added'; echo 'early.bin: added'; report_of examples/season/report.txt; } >"$out/other-order.txt"
+printf '%s\n' '../torn-journal/salvaged.bin: added' 'journals=1' 'state 0: slots=3 entries=1 by input 1 2' \
+    'state 1: slots=6 entries=1 by input 6 0' >"$out/of-salvaged.txt"
+printf '%s\n' 'journals=0' 'state 0: slots=0 entries=0 by input 0 0' 'state 1: slots=0 entries=0 by input 0 0' >"$out/of-none.txt"
+echo '../idle-sets/old-table.bin: refused 11 at 40' >"$out/of-old-table.txt"
+season 1 examples/season/report.txt table.bin early.bin torn.bin late.bin
+season 0 "$out/other-order.txt" table.bin late.bin early.bin
+season 0 "$out/of-salvaged.txt" table.bin ../torn-journal/salvaged.bin
+season 0 "$out/of-none.txt" table.bin
+season 1 "$out/of-old-table.txt" ../idle-sets/old-table.bin early.bin
 
 if [ "$self" = no ]; then
     echo "== the stack that the functions need"

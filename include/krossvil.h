@@ -1,13 +1,14 @@
 /*
  * krossvil: a table check, a journal check, a runtime, a reaction calculator, a converter of old tables, a reader of stamped
- * journals, for short journals a check and the ways to and from journals, and salvage of torn journals; for polling controllers,
- * and a host program in C.
+ * journals, for short journals a check and the ways to and from journals, salvage of torn journals, and a report of where the time of
+ * many journals went; for polling controllers, and a host program in C.
  *
  * Link with libkrossvil.a (x86-64). The functions keep no state, allocate nothing, call only memcpy and memset, and never stop the program:
  * each ends with an answer on any bytes. How much stack they need is below; that is measured, not proved.
  *
  * Slices. A slice is a pointer and the number of bytes at it. The pointer is never null, not even if the number is 0, and a slice
- * that a function writes to (without const) shares no byte with another slice of the same call.
+ * that a function writes to (without const) shares no byte with another slice of the same call. One slice has numbers in the place
+ * of bytes, the report of krossvil_report_add.
  *
  * The number that comes back. 0 is success. Otherwise it is refusal number * 2^32 + place: krossvil_number and krossvil_place
  * below take it apart. On a refusal no byte of any slice has changed.
@@ -96,13 +97,15 @@
  *         machine's                                               start of the field
  *     30  buffer shorter than the journal, the short journal or
  *         the table that is written; any function with an
- *         answer: it is too short                                 0
+ *         answer: it is too short; the report is too short        0
  *     34  lengthening: the journal would pass 65,536 bytes        0
+ *     35  the report has 1,000 journals already                   0
  *
  * The table's refusals, 1 to 8 and 11 to 13, come before all others: field by field; in field 06 entry by entry, each for 7 and
  * then for 11; in field 07 timer by timer, each for 13 at its length and then for 12 at its region; 8 is the last of them. Then,
  * of a journal, a stimulus or a short journal, 19, and field by field 20 to 28; of a stamped journal, which has no table, 19, and
  * field by field 20 to 22; of the calculator, 14, 9 for the states, 9 for the inputs, 10. Then, of krossvil_lengthen, 34. Then 30.
+ * Of krossvil_report_add, after those of the journal, 30 if the report has no number at all, then 35, then 30.
  * krossvil_salvage gives 20 to 23 only at 0, for the opening field: it salvages from all that is wrong behind that.
  * The table check has no answer, and gives 1 to 8 and 11 to 13 only. The converter gives none of 11 to 14: it takes tables with holds
  * only, and field 07 is 2 to it. 29, a run's journal that would pass 65,536 bytes, is no longer given, since no run makes one; the
@@ -124,7 +127,7 @@ extern "C" {
 #define KROSSVIL_SHORT_MAX 65536u   /* what krossvil_shorten writes has at most 49,152: a buffer of so many is never too short */
 
 #define KROSSVIL_RUN_STACK 80000u /* bytes of stack that are enough for krossvil_run and krossvil_read_stamped */
-#define KROSSVIL_STACK 12000u     /* and for the other functions */
+#define KROSSVIL_STACK 16000u     /* and for the other functions */
 
 #define KROSSVIL_JOURNAL_ANSWER 28u /* bytes of answer on success: T, ticks, moves, last state, its output, left, longest */
 #define KROSSVIL_RUN_ANSWER 4u      /* the journal's length in bytes */
@@ -135,6 +138,9 @@ extern "C" {
 #define KROSSVIL_SHORTEN_ANSWER 4u  /* the short journal's length in bytes */
 #define KROSSVIL_LENGTHEN_ANSWER 4u /* the journal's length in bytes */
 #define KROSSVIL_SALVAGE_ANSWER 16u /* bytes kept, bytes dropped, number and place of the refusal that stopped it */
+
+#define KROSSVIL_REPORT_MAX 1089u      /* numbers, not bytes: a report of so many is never too short */
+#define KROSSVIL_REPORT_JOURNALS 1000u /* so many journals one report takes */
 
 /* Does the table pass? There are no further numbers. */
 uint64_t krossvil_check_table(const uint8_t *table, size_t table_len);
@@ -197,6 +203,30 @@ uint64_t krossvil_lengthen(const uint8_t *table, size_t table_len, const uint8_t
  * than the journal. A journal that is too long, or whose opening field is refused, is refused in the same way. */
 uint64_t krossvil_salvage(const uint8_t *table, size_t table_len, const uint8_t *journal, size_t journal_len,
                           uint8_t *salvaged, size_t salvaged_len, uint8_t *answer, size_t answer_len);
+
+/* Check a journal, and add where its time went to a report. The report is memory of the host's: report_len numbers of 64 bits, in the
+ * processor's own byte order, aligned to 8 bytes; no other argument overlaps it. It begins with zeros, and has these numbers:
+ *   at 0                how many journals were added
+ *   at 1 + q            dwell: how many slots have state q
+ *   at 1 + Q + q*I + a  pairs, rows by state: how many slots have state q and present input a
+ *   at 1 + Q + Q*I + q  entries: how often state q was entered
+ * which are 1 + 2*Q + Q*I (krossvil_report_len below). A journal that ends at T has the slots 0 to T - 1; the state and the input of
+ * slot k are those after every record up to time k, those at k included. An entry is a tick, one at T too, that makes q the state
+ * from another; and in every journal the initial state is entered at 0.
+ * What is not accepted is refused as krossvil_check_journal refuses it. Then comes 30, if report_len is 0; 35, if the first number is
+ * 1,000 or more; and 30, if report_len is less than 1 + 2*Q + Q*I. Otherwise the journal's numbers are added, modulo 2^64, which no sum
+ * of 1,000 journals reaches that began with zeros; numbers past the last are unchanged, and on a refusal all are. In which order
+ * journals are added makes no difference while no 35 comes.
+ * The report does not say under which table it was begun: the table is given with each journal, and that it is the same for all of
+ * them is for the host to see to. Under another table numbers would be added at places that mean something else. */
+uint64_t krossvil_report_add(const uint8_t *table, size_t table_len, const uint8_t *journal, size_t journal_len,
+                             uint64_t *report, size_t report_len);
+
+/* How many numbers a report has. */
+static inline size_t krossvil_report_len(uint32_t states, uint32_t inputs)
+{
+    return 1 + 2 * (size_t)states + (size_t)states * inputs;
+}
 
 static inline uint32_t krossvil_number(uint64_t code) { return (uint32_t)(code >> 32); }
 

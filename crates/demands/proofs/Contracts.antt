@@ -5,13 +5,10 @@ use mathlib.Core.Bool.{Bool, true, false}
 use Prim.Native.Nat.{ℕ, _*_}
 use denote.Ref.{now}
 use lib.ListN.{length, drop}
-use Rattle.wire.specs.Choice.{_<?_, _=?_, if_then_else_}
+use Rattle.wire.specs.Choice.{_<?_, if_then_else_}
 use Rattle.wire.specs.Made as Made′
 use Rattle.wire.specs.Made.{Made, answerIn, bufferIn}
 use Rattle.wire.specs.Reply.{Reply, gives, refuses, numberIn, valuesIn}
-use Rattle.table.specs.declared.Answer as table′
-use Rattle.table.proofs.Answers.{decided}
-use Rattle.table.specs.Answer as table-answer
 use Rattle.records.proofs.Places.{refusal-numbered}
 use Rattle.runtime.specs.declared.Answer as runtime′
 use Rattle.runtime.specs.declared.Answer.the-variants as made
@@ -29,7 +26,7 @@ use Rattle.restate.specs.declared.Answer as restate′
 use Rattle.restate.specs.declared.Answer.the-variants as restated
 use Rattle.restate.specs.Answer as restate-answer
 use Rattle.restate.specs.Restate.{shortenOf, lengthenOf}
-use Rattle.krossvil.proofs.Accepting.{table-numbered}
+use Rattle.krossvil.proofs.Accepting.{Numbered, table-fine, buffer-kept}
 use Rattle.salvage.specs.declared.Answer as salvage′
 use Rattle.salvage.specs.declared.Answer.the-variants as salvaged
 use Rattle.salvage.specs.Answer as salvage-answer
@@ -40,7 +37,8 @@ use Rattle.krossvil.proofs.Converts.{convert-gives}
 use Rattle.krossvil.proofs.Stamps.{stamped-gives}
 use Rattle.krossvil.proofs.Restates.{shorten-gives, lengthen-gives}
 use Rattle.krossvil.proofs.Salvages.{salvage-gives}
-use Rattle.krossvil.specs.Host.{told, codeOf, numberBytes, answerAfter, journalTold, shortTold, bufferAfter, reactionTold}
+use Rattle.krossvil.proofs.Reports.{report-numbered}
+use Rattle.krossvil.specs.Host.{told, codeOf, numberBytes, answerAfter, journalTold, shortTold, bufferAfter, reactionTold, reportTold}
 use Rattle.laws.proofs.Never28.{never-differs}
 use Rattle.demands.specs.Contracts.{EveryEntryDetermines, EveryRefusalKeeps, RunNeverDiffers}
 
@@ -52,18 +50,7 @@ unfolding numberBytes
 answer-kept (gives values) answer other = absurd (other refl)
 answer-kept (refuses number place) answer other = refl
 
--- And a buffer that is written to, since no refusal has number 0.
-abbrev Numbered : Reply → Type 0
-Numbered (gives values) = Unit
-Numbered (refuses number place) = (number =? 0) ≡ false
-
-table-fine : (a : table′.Answer) → Numbered (table-answer.replyOf a)
-table-fine a = decided a (λ e. rw e tt) (λ r other. go (table-answer.replyOf a) (table-numbered a r))
-  where
-    go : (reply : Reply) → (numberIn reply =? 0) ≡ false → Numbered reply
-    go (gives values) h = tt
-    go (refuses number place) h = h
-
+-- No refusal has number 0, of which `buffer-kept` makes that a buffer which is written to is as it was.
 run-numbered : (a : runtime′.Answer) → Numbered (run-answer.replyOf a)
 run-numbered (made.Written size) = tt
 run-numbered (made.TableRefused answer) = table-fine answer
@@ -78,11 +65,6 @@ told-numbered reply room h = go (room <? 4 * length (valuesIn reply))
     go : (b : Bool) → Numbered (if b then refuses 30 0 else reply)
     go true = refl
     go false = h
-
-buffer-kept : (reply : Reply) → Numbered reply → (written buffer : List ℕ) → (codeOf reply ≡ 0 → ⊥) → bufferAfter reply written buffer ≡ buffer
-unfolding bufferAfter
-buffer-kept (gives values) h written buffer other = absurd (other refl)
-buffer-kept (refuses number place) h written buffer other = rw h refl
 
 -- A buffer that is written to, and the answer buffer.
 both-kept : (reply : Reply) → Numbered reply → (written buffer answer : List ℕ) →
@@ -154,6 +136,8 @@ every-entry-determines = (
   record { asks-nothing = λ κs a. tt; one-outcome = λ κs a r r′ s s′ p p′. (p .0 ∙ sym (p′ .0), one (p .1 ∙ sym (p′ .1))) },
   record { asks-nothing = λ κs a. tt; one-outcome = λ κs a r r′ s s′ p p′. (p .0 ∙ sym (p′ .0), one (p .1 ∙ sym (p′ .1))) },
   record { asks-nothing = λ κs a. tt; one-outcome = λ κs a r r′ s s′ p p′. (p ∙ sym p′, refl) },
+  record { asks-nothing = λ κs a. tt; one-outcome = λ κs a r r′ s s′ p p′. (p ∙ sym p′, refl) },
+  record { asks-nothing = λ κs a. tt; one-outcome = λ κs a r r′ s s′ p p′. (p ∙ sym p′, refl) },
   record { asks-nothing = λ κs a. tt; one-outcome = λ κs a r r′ s s′ p p′. (p .0 ∙ sym (p′ .0), one (p .1 ∙ sym (p′ .1))) },
   record {
     asks-nothing = λ κs a. tt;
@@ -181,6 +165,7 @@ every-entry-determines = (
     asks-nothing = λ κs a. tt;
     one-outcome = λ κs a r r′ s s′ p p′. (p .0 ∙ sym (p′ .0), two (p .1 .1 ∙ sym (p′ .1 .1)) (p .1 .0 ∙ sym (p′ .1 .0)));
   },
+  record { asks-nothing = λ κs a. tt; one-outcome = λ κs a r r′ s s′ p p′. (p .0 ∙ sym (p′ .0), one (p .1 ∙ sym (p′ .1))) },
 )
 
 pub every-refusal-keeps : EveryRefusalKeeps
@@ -245,6 +230,9 @@ every-refusal-keeps = (
       let told-as = answerIn salvaged.BufferTooShort made-is (length buffer) in
       both-kept (salvage-answer.replyOf told-as) (salvage-numbered told-as)
       (bufferIn made-is buffer) buffer (now (a .1 .1 .1 .0)) _ (p .1 .1) _ (p .1 .0) (λ e. other (p .0 ∙ e)),
+  λ κs a r s p other.
+      let report = now (a .1 .1 .0) in
+      one (p .1 ∙ buffer-kept (reportTold (now (a .0)) (now (a .1 .0)) report) (report-numbered (now (a .0)) (now (a .1 .0)) report) _ report (λ e. other (p .0 ∙ e))),
 )
 
 pub run-never-differs : RunNeverDiffers

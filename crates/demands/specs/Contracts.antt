@@ -35,6 +35,10 @@ use Rattle.restate.proofs.lengthen.Reads as lengthen
 use Rattle.salvage.specs.Answer as salvage-answer
 use Rattle.salvage.proofs.salvage.Kinds as salvage-kinds
 use Rattle.salvage.proofs.salvage.Reads as salvage
+use Rattle.report.proofs.begin.Kinds as begin-kinds
+use Rattle.report.proofs.begin.Reads as begin
+use Rattle.report.proofs.Report.add.Kinds as add-kinds
+use Rattle.report.proofs.Report.add.Reads as add
 use Rattle.krossvil.proofs.krossvil_check_table.Kinds as c-table-kinds
 use Rattle.krossvil.proofs.krossvil_check_table.Reads as c-table
 use Rattle.krossvil.proofs.krossvil_check_journal.Kinds as c-journal-kinds
@@ -55,6 +59,8 @@ use Rattle.krossvil.proofs.krossvil_lengthen.Kinds as c-lengthen-kinds
 use Rattle.krossvil.proofs.krossvil_lengthen.Reads as c-lengthen
 use Rattle.krossvil.proofs.krossvil_salvage.Kinds as c-salvage-kinds
 use Rattle.krossvil.proofs.krossvil_salvage.Reads as c-salvage
+use Rattle.krossvil.proofs.krossvil_report_add.Kinds as c-report-kinds
+use Rattle.krossvil.proofs.krossvil_report_add.Reads as c-report
 
 -- A contract, and the bytes of the slices that are lent to be written, as they were and as they are left.
 pub record Contract : Type 1 where
@@ -110,6 +116,12 @@ lengthener = entry 3 lengthen-kinds.ps lengthen-kinds.r lengthen.Pre lengthen.Po
 abbrev pub salvager : Contract
 salvager = entry 3 salvage-kinds.ps salvage-kinds.r salvage.Pre salvage.Post (λ κs a. now (a .1 .1 .0) ∷ []) (λ κs s. now (s .1 .1 .0) ∷ [])
 
+abbrev pub reportBegin : Contract
+reportBegin = entry 1 begin-kinds.ps begin-kinds.r begin.Pre begin.Post (λ κs a. []) (λ κs s. [])
+
+abbrev pub reportAdd : Contract
+reportAdd = entry 1 add-kinds.ps add-kinds.r add.Pre add.Post (λ κs a. []) (λ κs s. [])
+
 abbrev pub tableInC : Contract
 tableInC = entry 1 c-table-kinds.ps c-table-kinds.r c-table.Pre c-table.Post (λ κs a. []) (λ κs s. [])
 
@@ -154,6 +166,10 @@ salvagerInC =
     entry 4 c-salvage-kinds.ps c-salvage-kinds.r c-salvage.Pre c-salvage.Post
     (λ κs a. now (a .1 .1 .0) ∷ now (a .1 .1 .1 .0) ∷ []) (λ κs s. now (s .1 .1 .0) ∷ now (s .1 .1 .1 .0) ∷ [])
 
+-- What is lent are the report's numbers.
+abbrev pub reportInC : Contract
+reportInC = entry 3 c-report-kinds.ps c-report-kinds.r c-report.Pre c-report.Post (λ κs a. now (a .1 .1 .0) ∷ []) (λ κs s. now (s .1 .1 .0) ∷ [])
+
 -- ---- Every answer is determined
 
 -- The contract asks nothing and allows one outcome: the result, and every lent byte.
@@ -166,8 +182,10 @@ abbrev pub EveryEntryDetermines : Type 0
 EveryEntryDetermines =
     Determines tableCheck × Determines journalCheck × Determines runtimeRun × Determines reactionReact × Determines converter
     × Determines stampedReader × Determines shortCheck × Determines shortener × Determines lengthener × Determines salvager
+    × Determines reportBegin × Determines reportAdd
     × Determines tableInC × Determines journalInC × Determines runInC × Determines reactionInC × Determines converterInC
     × Determines stampedInC × Determines shortInC × Determines shortenerInC × Determines lengthenerInC × Determines salvagerInC
+    × Determines reportInC
 
 -- ---- A refusal changes no lent byte
 
@@ -184,6 +202,7 @@ EveryRefusalKeeps =
     × RefusalKeeps journalInC (λ κs r. r) × RefusalKeeps runInC (λ κs r. r) × RefusalKeeps reactionInC (λ κs r. r)
     × RefusalKeeps converterInC (λ κs r. r) × RefusalKeeps stampedInC (λ κs r. r)
     × RefusalKeeps shortInC (λ κs r. r) × RefusalKeeps shortenerInC (λ κs r. r) × RefusalKeeps lengthenerInC (λ κs r. r) × RefusalKeeps salvagerInC (λ κs r. r)
+    × RefusalKeeps reportInC (λ κs r. r)
 
 -- ---- The runtime never gives 28
 

@@ -1,5 +1,5 @@
 -- Only an acceptance is told as 0: no refusal has number 0.
-use mathlib.Core.Path.{_≡_, refl}
+use mathlib.Core.Path.{_≡_, refl, sym, _∙_}
 use mathlib.Core.List.{List}
 use mathlib.Core.Bool.{Bool, true, false}
 use Prim.Native.Nat.{ℕ, _*_}
@@ -7,7 +7,7 @@ use native.Mathlib.Omega.{arith}
 use borrow.Author.Tests.{eqb-false}
 use lib.ListN.{length}
 use Rattle.wire.specs.Choice.{_<?_, _=?_, if_then_else_}
-use Rattle.wire.specs.Reply.{Reply, refuses, numberIn, valuesIn}
+use Rattle.wire.specs.Reply.{Reply, gives, refuses, numberIn, valuesIn}
 use Rattle.table.specs.declared.Table.{Table}
 use Rattle.table.specs.declared.Answer as table′
 use Rattle.table.specs.Answer as table-answer
@@ -26,7 +26,9 @@ use Rattle.journal.specs.declared.Answer.{Answer}
 use Rattle.journal.specs.declared.Answer.the-variants as answer
 use Rattle.journal.specs.Answer.{replyOf}
 use Rattle.journal.specs.Check.{checkIn, answerOf}
-use Rattle.krossvil.specs.Host.{told, codeOf}
+use Rattle.journal.specs.Accepted.{AcceptedIn}
+use Rattle.journal.proofs.Accepted.{accepted}
+use Rattle.krossvil.specs.Host.{told, codeOf, bufferAfter}
 
 pub table-numbered : (a : table′.Answer) → passes? a ≡ false → (numberIn (table-answer.replyOf a) =? 0) ≡ false
 table-numbered a r = r
@@ -57,3 +59,31 @@ module _ (F : Form) (table s : List ℕ) (room : ℕ) where
       decided (tableAnswer table)
       (λ pass. rw pass (under-zero (tableIn table) (runOver F (tableIn table) s) (rw pass at e)))
       (λ r other. absurd (not-zero (replyOf (answer.TableRefused (tableAnswer table))) (table-numbered (tableAnswer table) r) room (rw r at e)))
+
+  pub accepted-zero : (code : ℕ) → code ≡ codeOf (told (replyOf (checkIn F table s)) room) → code ≡ 0 → AcceptedIn F table s
+  accepted-zero code e zero = let a = zero-accepted (sym e ∙ zero) in accepted F table s (a .n) (a .is)
+
+-- ---- Where the host is not told 0
+
+abbrev pub Numbered : Reply → Type 0
+Numbered (gives values) = Unit
+Numbered (refuses number place) = (number =? 0) ≡ false
+
+pub table-fine : (a : table′.Answer) → Numbered (table-answer.replyOf a)
+table-fine a = decided a (λ e. rw e tt) (λ r other. go (table-answer.replyOf a) (table-numbered a r))
+  where
+    go : (reply : Reply) → (numberIn reply =? 0) ≡ false → Numbered reply
+    go (gives values) h = tt
+    go (refuses number place) h = h
+
+pub journal-numbered : (a : Answer) → Numbered (replyOf a)
+journal-numbered (answer.Accepted n) = tt
+journal-numbered (answer.TableRefused a) = table-fine a
+journal-numbered answer.TooLong = refl
+journal-numbered (answer.Refused refusal place) = refusal-numbered refusal
+
+-- A buffer that is written to is as it was.
+pub buffer-kept : (reply : Reply) → Numbered reply → (written buffer : List ℕ) → (codeOf reply ≡ 0 → ⊥) → bufferAfter reply written buffer ≡ buffer
+unfolding bufferAfter
+buffer-kept (gives values) h written buffer other = absurd (other refl)
+buffer-kept (refuses number place) h written buffer other = rw h refl

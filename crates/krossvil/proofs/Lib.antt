@@ -9,3 +9,4 @@ pub mod Stamps
 pub mod Accepting
 pub mod Restates
 pub mod Salvages
+pub mod Reports

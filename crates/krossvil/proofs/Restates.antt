@@ -28,7 +28,6 @@ use Rattle.journal.specs.Answer as journal-answer
 use Rattle.journal.specs.Answer.{listed}
 use Rattle.journal.specs.Check.{checkIn}
 use Rattle.journal.specs.Accepted.{AcceptedIn}
-use Rattle.journal.proofs.Accepted.{accepted}
 use Rattle.journal.proofs.Ahead.{not-too-long}
 use Rattle.restate.specs.declared.Answer.{Answer}
 use Rattle.restate.specs.declared.Answer.the-variants.{Written, TableRefused, TooLong, Refused, OldFormTooLong, BufferTooShort}
@@ -42,7 +41,7 @@ use Rattle.krossvil.specs.Small.{LengthFits}
 use Rattle.krossvil.proofs.TablePlaces.{table-none, table-fits}
 use Rattle.krossvil.proofs.Places.{RunBy, run-by, refusal-small, small}
 use Rattle.krossvil.proofs.Outcomes.{told-fits}
-use Rattle.krossvil.proofs.Accepting.{zero-accepted}
+use Rattle.krossvil.proofs.Accepting.{accepted-zero}
 use Rattle.krossvil.proofs.Writers.{Writes, Gives, WriteOwed, made-writes, made-refused-owed}
 use Rattle.krossvil.proofs.Lengths.{TellsLength, length-gives, length-writes, length-fits}
 
@@ -124,9 +123,6 @@ module _ (F : Form) (of : Run → Made Answer) (table s : List ℕ) where
   abbrev checked : Reply
   checked = told (journal-answer.replyOf (checkIn F table s)) 28
 
-  accepted-zero : (code : ℕ) → code ≡ codeOf checked → code ≡ 0 → AcceptedIn F table s
-  accepted-zero code e zero = let a = zero-accepted F table s 28 (sym e ∙ zero) in accepted F table s (a .n) (a .is)
-
   -- Its refusals are passed up, and no buffer changes.
   passed-up : of tooLong ≡ made.refused TooLong → ((x : Refusal) (place : ℕ) → of (walk.refused x place) ≡ made.refused (Refused x place)) →
       (code : ℕ) → code ≡ codeOf checked → (code ≡ 0 → ⊥) → (m : Made Answer) → m ≡ entryOf F of table s → (buffer answer : List ℕ) →
@@ -147,7 +143,7 @@ module _ (F : Form) (of : Run → Made Answer) (table s : List ℕ) where
 -- What the entries need of it.
 module _ (table s : List ℕ) (code : ℕ) where
   pub shorten-accepted : code ≡ codeOf (journalTold table s 28) → code ≡ 0 → AcceptedIn journal table s
-  shorten-accepted e zero = accepted-zero journal (restated short) table s code e zero
+  shorten-accepted e zero = accepted-zero journal table s 28 code e zero
 
   pub shorten-passed : code ≡ codeOf (journalTold table s 28) → (code ≡ 0 → ⊥) → (buffer answer : List ℕ) →
       WriteOwed (λ room. replyOf (answerIn BufferTooShort (shortenOf table s) room)) (bufferIn (shortenOf table s)) buffer answer code answer buffer
@@ -156,7 +152,7 @@ module _ (table s : List ℕ) (code : ℕ) where
       passed-up journal (restated short) table s refl (λ x place. refl) code e other (shortenOf table s) refl buffer answer
 
   pub lengthen-accepted : code ≡ codeOf (shortTold table s 28) → code ≡ 0 → AcceptedIn short table s
-  lengthen-accepted e zero = accepted-zero short (λ r. withinLimit (restated journal r)) table s code e zero
+  lengthen-accepted e zero = accepted-zero short table s 28 code e zero
 
   pub lengthen-passed : code ≡ codeOf (shortTold table s 28) → (code ≡ 0 → ⊥) → (buffer answer : List ℕ) →
       WriteOwed (λ room. replyOf (answerIn BufferTooShort (lengthenOf table s) room)) (bufferIn (lengthenOf table s)) buffer answer code answer buffer

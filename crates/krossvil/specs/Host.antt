@@ -1,11 +1,14 @@
 -- What a host program in C gets: docs/RULES.md, "In C".
 use mathlib.Core.List.{List, [], _∷_, _++_}
 use Prim.Native.Nat.{ℕ, _+_, _*_, _^_}
-use lib.ListN.{length, drop}
-use Rattle.wire.specs.Choice.{_<?_, _=?_, if_then_else_}
+use lib.ListN.{length, drop, getD}
+use Rattle.wire.specs.Choice.{_<?_, _≤?_, _=?_, if_then_else_}
 use Rattle.wire.specs.Encode.{bytes32}
 use Rattle.wire.specs.Made.{answerIn, bufferIn}
-use Rattle.wire.specs.Reply.{Reply, refuses, numberIn, placeIn, valuesIn}
+use Rattle.wire.specs.Reply.{Reply, gives, refuses, numberIn, placeIn, valuesIn}
+use Rattle.table.specs.Check.{tableIn}
+use Rattle.records.specs.Form as form
+use Rattle.machine.specs.Walk.{runOver}
 use Rattle.journal.specs.Answer as journal
 use Rattle.journal.specs.Check.{checkOf, checkShortOf}
 use Rattle.runtime.specs.Answer as runtime
@@ -22,6 +25,10 @@ use Rattle.stamped.specs.Stamped.{readOf}
 use Rattle.restate.specs.declared.Answer.the-variants as restate′
 use Rattle.restate.specs.Answer as restate
 use Rattle.restate.specs.Restate.{shortenOf, lengthenOf}
+use Rattle.tally.specs.Tally.{tallyIn}
+use Rattle.tally.specs.Sums.{summed}
+use Rattle.report.specs.Report.{mostJournals}
+use Rattle.report.specs.Rows.{placesOf, rowOf}
 use Rattle.reaction.specs.Answer as reaction
 use Rattle.reaction.specs.Reaction.{reactOf}
 
@@ -96,3 +103,28 @@ salvageTold table records buffer room = told (salvage.replyOf (answerIn salvaged
 
 abbrev pub salvageJournal : List ℕ → List ℕ → List ℕ → ℕ → List ℕ
 salvageJournal table records buffer room = bufferAfter (salvageTold table records buffer room) (bufferIn (salvageOf table records) buffer) buffer
+
+-- ---- The report, which the host keeps. It has no answer buffer.
+
+-- Where there is no number at all 35 could not be told: this 30 comes before it.
+unfoldable pub roomFor : (places : ℕ) → (report : List ℕ) → Reply
+roomFor places report =
+    if length report =? 0 then refuses 30 0
+    else if mostJournals ≤? getD report 0 0 then refuses 35 0
+    else if length report <? places then refuses 30 0
+    else gives []
+
+-- The checker's refusals come first.
+abbrev pub afterCheck : (checked later : Reply) → Reply
+afterCheck (gives values) later = later
+afterCheck (refuses number place) later = refuses number place
+
+unfoldable pub reportTold : List ℕ → List ℕ → List ℕ → Reply
+reportTold table records report = afterCheck (journal.replyOf (checkOf table records)) (roomFor (placesOf (tableIn table)) report)
+
+-- What the journal adds to it, number by number.
+abbrev pub reportRow : List ℕ → List ℕ → List ℕ
+reportRow table records = rowOf (tableIn table) (tallyIn (tableIn table) (runOver form.journal (tableIn table) records))
+
+abbrev pub reportAfter : List ℕ → List ℕ → List ℕ → List ℕ
+reportAfter table records report = bufferAfter (reportTold table records report) (summed report (reportRow table records)) report

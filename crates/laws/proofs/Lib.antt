@@ -15,3 +15,4 @@ pub mod Shorts
 pub mod Fronts
 pub mod Cuts
 pub mod Salvages
+pub mod Reports

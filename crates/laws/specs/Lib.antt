@@ -6,3 +6,4 @@ pub mod Timers
 pub mod Stamps
 pub mod Shorts
 pub mod Salvages
+pub mod Reports

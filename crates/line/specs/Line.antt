@@ -1,4 +1,4 @@
--- The line that `checkjournal` prints: docs/RULES.md, "The program".
+-- The line that `checkjournal` prints: docs/RULES.md, "The programs".
 use mathlib.Core.Path.{_≡_}
 use mathlib.Core.List.{List, [], _∷_, _++_}
 use Prim.Native.Nat.{ℕ, zero, suc, _+_, _/_, _%_}

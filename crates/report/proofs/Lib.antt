@@ -1,0 +1,4 @@
+pub mod Adding
+pub mod Accepting
+pub mod TableLong
+pub mod Row

@@ -1,0 +1,5 @@
+pub mod Rows
+pub mod Joining
+pub mod Quoting
+pub mod Whole
+pub mod Classroom

@@ -1,0 +1,4 @@
+pub mod Tally
+pub mod Sums
+pub mod Totals
+pub mod Counting
