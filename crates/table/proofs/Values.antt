@@ -22,7 +22,7 @@ module _ (f : ℕ → ℕ) where
   set-filled array k h =
       rw (drop-cons array k 0 h, set-at (values f k) (getD array k 0) (drop (suc k) array) (f k) k (length-values k), add-one k, append-assoc)
 
-  getD-values : (n k : ℕ) → k < n → getD (values f n) k 0 ≡ f k
+  pub getD-values : (n k : ℕ) → k < n → getD (values f n) k 0 ≡ f k
   unfolding values
   getD-values zero k h = absurd (not-suc-le-zero h)
   getD-values (suc n) k h = go (eq-or-lt-of-le (le-of-suc-le-suc h)) (getD-values n k)

@@ -1,15 +1,15 @@
 -- What is counted record by record is the tally, which is defined by slots.
 use mathlib.Core.Path.{_≡_, sym, ap, _∙_}
-use mathlib.Core.List.{List, [], append-nil}
+use mathlib.Core.List.{List}
 use Prim.Native.Nat.{ℕ, _/_, _%_, _<_}
 use native.Mathlib.Omega.{arith}
-use lib.ListN.{length, getD, drop, length-replicate, getD-replicate, drop-of-length-le}
+use lib.ListN.{length, getD, length-replicate, getD-replicate}
 use lib.Seq.{ext-getD}
 use Rattle.wire.specs.Choice.{_=?_, _and_}
 use Rattle.table.specs.declared.Table.{Table}
 use Rattle.table.specs.Table.{WellFormed}
 use Rattle.table.specs.Entries.{values, zeros}
-use Rattle.table.proofs.Values.{length-values, getD-filled}
+use Rattle.table.proofs.Values.{length-values, getD-values}
 use Rattle.records.specs.declared.Record.{Record}
 use Rattle.machine.specs.declared.Machine.{Machine}
 use Rattle.machine.specs.Machine.{start}
@@ -27,11 +27,6 @@ length-zeros n = length-replicate {A = ℕ} n 0
 
 zero-at : (n k : ℕ) → k < n → getD (zeros n) k 0 ≡ 0
 zero-at n k h = getD-replicate {A = ℕ} n k 0 0 h
-
-pub getD-values : (f : ℕ → ℕ) (n k : ℕ) → k < n → getD (values f n) k 0 ≡ f k
-getD-values f n k h =
-    let past : drop n (zeros n) ≡ [] = drop-of-length-le (zeros n) {i = n} (rw (length-zeros n) (omega arith)) in
-    rw (past, append-nil) at (getD-filled f n n (omega arith) k h)
 
 -- A list of n places is f 0, .., f (n - 1) if each place has its f.
 are-values : (f : ℕ → ℕ) (n : ℕ) (array : List ℕ) → length array ≡ n → ((k : ℕ) → k < n → getD array k 0 ≡ f k) → array ≡ values f n

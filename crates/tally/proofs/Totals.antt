@@ -13,7 +13,7 @@ use Rattle.wire.specs.Choice.{_=?_, _and_, if_then_else_}
 use Rattle.table.specs.declared.Table.{Table}
 use Rattle.table.specs.Table.{WellFormed}
 use Rattle.table.specs.Entries.{values}
-use Rattle.table.proofs.Values.{length-values}
+use Rattle.table.proofs.Values.{length-values, getD-values}
 use Rattle.records.specs.declared.Record.{Record}
 use Rattle.records.specs.Record.{timeOf, latest}
 use Rattle.machine.specs.declared.Machine.{Machine}
@@ -27,7 +27,6 @@ use Rattle.tally.specs.Tally.{slotsBefore, dwellIn, slotsWith, entriesFr
 use Rattle.tally.specs.Totals.{total, InTable, AcceptedRecords}
 use Rattle.tally.specs.Totals.{DwellSumsToEnd, PairsSumToDwell, EntriesSumToMoves, TallyIsSmall, PlacesOfTally, RestIsZero}
 use Rattle.tally.proofs.Places.{Within, within}
-use Rattle.tally.proofs.Counted.{getD-values}
 use Rattle.tally.proofs.Moves.{moves-in-time}
 
 -- ---- Sums
