@@ -32,7 +32,7 @@ struct input {
     uint8_t table[TABLE_ROOM], stimulus[KROSSVIL_STIMULUS_MAX], journal[KROSSVIL_JOURNAL_MAX];
     uint8_t short_journal[KROSSVIL_SHORT_MAX];
     size_t table_len, stimulus_len, journal_len, short_len;
-    uint32_t states, inputs, bound, count_of_inputs;
+    uint32_t states, inputs, bound, count_of_inputs, moves;
 };
 
 static struct input inputs[ROTATION];
@@ -114,6 +114,17 @@ static void make_table(struct input *in, uint32_t states, uint32_t count, uint32
     in->inputs = count == 32 ? UINT32_MAX : (1u << count) - 1;
 }
 
+/* A table of 32 states and 32 inputs in 8 steps of four states: every input leads to one of the next step, and those of the last step
+ * stay in it. So from 8 moves on the target is in the last step, and every other state is on some path. */
+static void make_steps(struct input *in, uint32_t moves)
+{
+    make_table(in, 32, 32, 60, 0);
+    in->moves = moves;
+    for (uint32_t q = 0; q < 32; q++)
+        for (uint32_t a = 0; a < 32; a++)
+            in->table[14 + 3 + 32 + 3 + 32 * q + a] = (uint8_t)((q < 28 ? q / 4 + 1 : 7) * 4 + below(4));
+}
+
 static void add_event(struct input *in, unsigned tag, uint32_t time)
 {
     head(in->stimulus, &in->stimulus_len, tag, tag == 0x21 ? 5 : 4);
@@ -178,10 +189,11 @@ static void make_run(struct input *in, bool irregular, size_t size, size_t recor
 
 /* ---- jobs ---- */
 
-enum job { CHECK_TABLE, CHECK_JOURNAL, CHECK_SHORT, RUN, REACTION, REPORT_ADD };
+enum job { CHECK_TABLE, CHECK_JOURNAL, CHECK_SHORT, RUN, REACTION, REPORT_ADD, REACTION_MOVES };
 
 static uint8_t room[KROSSVIL_JOURNAL_MAX];
 static uint64_t sums[KROSSVIL_REPORT_MAX];
+static uint32_t path_sums[KROSSVIL_SUMS_MAX];
 
 static uint64_t call(enum job job, bool library, const struct input *in, uint8_t *answer)
 {
@@ -201,6 +213,10 @@ static uint64_t call(enum job job, bool library, const struct input *in, uint8_t
         sums[0] = 0; /* so that it is never full */
         return (library ? krossvil_report_add : plain_report_add)(in->table, in->table_len, in->journal, in->journal_len,
                                                                   sums, KROSSVIL_REPORT_MAX);
+    case REACTION_MOVES:
+        return (library ? krossvil_reaction_moves : plain_reaction_moves)(in->table, in->table_len, in->states, in->inputs, in->moves,
+                                                                          path_sums, KROSSVIL_SUMS_MAX, room, KROSSVIL_PATH_MAX,
+                                                                          answer, 12);
     default:
         return (library ? krossvil_reaction : plain_reaction)(in->table, in->table_len, in->states, in->inputs, answer, 8);
     }
@@ -217,23 +233,27 @@ static size_t bytes_of(enum job job, const struct input *in)
     }
 }
 
-/* Both must give the same number, the same answer and the same journal or report; and nothing here is refused. */
+/* Both must give the same number, the same answer and the same journal, path, sums or report; and nothing here is refused. */
 static void same_answers(enum job job)
 {
     static uint8_t first[KROSSVIL_JOURNAL_MAX];
     static uint64_t first_sums[KROSSVIL_REPORT_MAX];
+    static uint32_t first_path_sums[KROSSVIL_SUMS_MAX];
     for (int k = 0; k < ROTATION; k++) {
         uint8_t a[28] = { 0 }, b[28] = { 0 };
         memset(room, 0, sizeof room);
         memset(sums, 0, sizeof sums);
+        memset(path_sums, 0, sizeof path_sums);
         uint64_t x = call(job, true, &inputs[k], a);
         memcpy(first, room, sizeof room);
         memcpy(first_sums, sums, sizeof sums);
+        memcpy(first_path_sums, path_sums, sizeof path_sums);
         memset(room, 0, sizeof room);
         memset(sums, 0, sizeof sums);
+        memset(path_sums, 0, sizeof path_sums);
         uint64_t y = call(job, false, &inputs[k], b);
         if (x != 0 || y != 0 || memcmp(a, b, sizeof a) != 0 || memcmp(first, room, sizeof room) != 0 ||
-            memcmp(first_sums, sums, sizeof sums) != 0) {
+            memcmp(first_sums, sums, sizeof sums) != 0 || memcmp(first_path_sums, path_sums, sizeof path_sums) != 0) {
             fprintf(stderr, "bench: the library and plain C differ\n");
             exit(1);
         }
@@ -358,6 +378,22 @@ static void tables(uint32_t states, uint32_t count_of_inputs)
     report(name, REACTION);
 }
 
+/* Where the cost is linear it grows by the same for each move, whatever the table's check costs. */
+static void several_moves(void)
+{
+    const uint32_t moves[] = { 8, 16, 32 };
+    double cost[3];
+    for (int m = 0; m < 3; m++) {
+        char name[64];
+        for (int k = 0; k < used(); k++)
+            make_steps(&inputs[k], moves[m]);
+        snprintf(name, sizeof name, "reaction, 32 states, %u moves", moves[m]);
+        cost[m] = report(name, REACTION_MOVES);
+    }
+    if (!counting)
+        printf("    a move from 17 to 32 costs %.2f of a move from 9 to 16\n", (cost[2] - cost[1]) / (cost[1] - cost[0]) / 2);
+}
+
 int main(int argc, char **argv)
 {
     counting = argc == 2 && strcmp(argv[1], "count") == 0;
@@ -370,8 +406,8 @@ int main(int argc, char **argv)
     runs(RUN, "runtime", "irregular", true, 0);
     tables(2, 2);
     tables(32, 32);
-    /* Irregular runs with timers, then short journals, then reports. What is new comes last, so that the lines above it have the
-     * inputs that they had before. */
+    /* Irregular runs with timers, then short journals, then reports, then several moves. What is new comes last, so that the lines
+     * above it have the inputs that they had before. */
     runs(CHECK_JOURNAL, "journal check", "1 timer", true, 1);
     runs(CHECK_JOURNAL, "journal check", "4 timers", true, 4);
     runs(RUN, "runtime", "1 timer", true, 1);
@@ -383,5 +419,6 @@ int main(int argc, char **argv)
     runs(REPORT_ADD, "report", "regular", false, 0);
     runs(REPORT_ADD, "report", "irregular", true, 0);
     runs(REPORT_ADD, "report", "4 timers", true, 4);
+    several_moves();
     return 0;
 }

@@ -15,6 +15,8 @@ uint64_t second_check_table(const uint8_t *, size_t);
 uint64_t second_check_journal(const uint8_t *, size_t, const uint8_t *, size_t, uint8_t *, size_t);
 uint64_t second_run(const uint8_t *, size_t, const uint8_t *, size_t, uint8_t *, size_t, uint8_t *, size_t);
 uint64_t second_reaction(const uint8_t *, size_t, uint32_t, uint32_t, uint8_t *, size_t);
+uint64_t second_reaction_moves(const uint8_t *, size_t, uint32_t, uint32_t, uint32_t, uint32_t *, size_t, uint8_t *, size_t, uint8_t *,
+                               size_t);
 uint64_t second_convert_table(const uint8_t *, size_t, uint8_t *, size_t, uint8_t *, size_t);
 uint64_t second_read_stamped(const uint8_t *, size_t, uint8_t *, size_t, uint8_t *, size_t);
 uint64_t second_check_short(const uint8_t *, size_t, const uint8_t *, size_t, uint8_t *, size_t);
@@ -26,6 +28,7 @@ uint64_t second_report_add(const uint8_t *, size_t, const uint8_t *, size_t, uin
 #define krossvil_check_journal second_check_journal
 #define krossvil_run second_run
 #define krossvil_reaction second_reaction
+#define krossvil_reaction_moves second_reaction_moves
 #define krossvil_convert_table second_convert_table
 #define krossvil_read_stamped second_read_stamped
 #define krossvil_check_short second_check_short
@@ -196,8 +199,9 @@ static void damage_bytes(struct bytes *bytes, const size_t *starts, size_t count
 
 /* ---- tables ---- */
 
-/* In an old table a state of hold 0 may delay inputs too. */
-enum table_kind { HOLDS, OLD_HOLDS, TIMERS };
+/* In an old table a state of hold 0 may delay inputs too. In one that leads ahead, with holds, most next states are some way further on
+ * in a row of the states. */
+enum table_kind { HOLDS, OLD_HOLDS, TIMERS, AHEAD };
 
 /* One place more than a table can have, for a plan that is damaged. */
 struct plan {
@@ -283,6 +287,23 @@ static void draw_timers(struct plan *plan)
     }
 }
 
+/* The states stand in any order; the last of them, and here and there another, stays. */
+static void lead_ahead(struct plan *plan)
+{
+    unsigned order[32] = { 0 };
+    unsigned stay = below(3) * 2, steps = between(1, 3); /* percent of self-loops; how many states ahead at most */
+    for (unsigned k = 0; k < plan->q; k++) {
+        unsigned other = percent(50) ? k : below(k + 1);
+        order[k] = order[other];
+        order[other] = k;
+    }
+    for (unsigned k = 0; k < plan->q; k++)
+        for (unsigned a = 0; a < plan->i; a++) {
+            unsigned ahead = percent(stay) ? k : k + between(1, steps);
+            plan->next[order[k]][a] = order[ahead < plan->q ? ahead : plan->q - 1];
+        }
+}
+
 static void draw_plan(struct plan *plan, enum table_kind kind)
 {
     memset(plan, 0, sizeof *plan);
@@ -302,6 +323,8 @@ static void draw_plan(struct plan *plan, enum table_kind kind)
         draw_timers(plan);
     else
         draw_holds(plan, kind == OLD_HOLDS);
+    if (kind == AHEAD)
+        lead_ahead(plan);
 }
 
 static uint32_t draw_too_long(void)
@@ -458,7 +481,7 @@ static void draw_table(struct plan *plan, struct bytes *bytes, enum table_kind k
 /* ---- journals, stimuli, stamped and short journals ---- */
 
 /* What an entry takes beside the table, or writes. */
-enum form { JOURNAL, STIMULUS, STAMPED, SHORT, TABLE, REPORT, NOTHING };
+enum form { JOURNAL, STIMULUS, STAMPED, SHORT, TABLE, REPORT, SUMS, NOTHING };
 
 static const char *const form_names[] = { "journal", "stimulus", "stamped journal", "short journal" };
 static const size_t limits[] = { JOURNAL_LIMIT, STIMULUS_LIMIT, STAMPED_LIMIT, SHORT_LIMIT };
@@ -776,14 +799,15 @@ static void damage_pieces(const struct plan *plan, enum form form)
 
 enum entry {
     CHECK_TABLE, CHECK_JOURNAL, RUN, REACTION, CONVERT_TABLE, READ_STAMPED, CHECK_SHORT, SHORTEN, LENGTHEN, SALVAGE, REPORT_ADD,
-    ENTRIES
+    REACTION_MOVES, ENTRIES
 };
 
 static const struct {
     const char *name;
     enum form takes, writes;
     size_t answer_size;
-    unsigned share, damaged; /* percent: of the random cases, and how many of these have a damaged table */
+    unsigned share, damaged; /* percent: of the random cases, and how many of these have a damaged table; REACTION_MOVES has no
+                                share, but follows each REACTION with a table of its own */
 } entries[ENTRIES] = {
     [CHECK_TABLE] = { "check_table", NOTHING, NOTHING, 0, 13, 65 },
     [CHECK_JOURNAL] = { "check_journal", JOURNAL, NOTHING, 28, 19, 11 },
@@ -796,6 +820,7 @@ static const struct {
     [LENGTHEN] = { "lengthen", SHORT, JOURNAL, 4, 5, 30 },
     [SALVAGE] = { "salvage", JOURNAL, JOURNAL, 16, 5, 20 },
     [REPORT_ADD] = { "report_add", JOURNAL, REPORT, 0, 5, 25 },
+    [REACTION_MOVES] = { "reaction_moves", NOTHING, SUMS, 12, 0, 20 },
 };
 
 /* Entries of one shape, the reference's and the library's. */
@@ -814,10 +839,12 @@ static uint64_t (*const rewrites[ENTRIES][2])(const uint8_t *, size_t, const uin
 struct call {
     enum entry entry;
     const struct bytes *table, *input; /* input: what it takes beside the table */
-    uint32_t states, inputs;
+    uint32_t states, inputs, moves;
     size_t output_len, answer_len; /* in bytes; output: what it writes beside the answer */
+    size_t path_len;               /* a second output, of REACTION_MOVES */
     const uint64_t *report;        /* what stands in an output of numbers beforehand, or NULL: anything */
     const struct bytes *right;     /* the output that a success must have, where that is known beforehand, or NULL */
+    const struct bytes *right_path;
 };
 
 enum { GUARD = 64 };
@@ -829,13 +856,14 @@ struct lent {
     union {
         uint8_t at[ROOM + 2 * GUARD];
         uint64_t numbers[(ROOM + 2 * GUARD) / 8];
+        uint32_t sums[(ROOM + 2 * GUARD) / 4];
     };
 };
 
 struct side {
     uint64_t returned;
     bool inputs_kept;
-    struct lent output, answer;
+    struct lent output, answer, path;
 };
 
 static struct side reference_side, library_side;
@@ -898,6 +926,11 @@ static void call_side(const struct call *call, bool library, struct side *side)
         side->returned = (library ? krossvil_reaction : reference_reaction)(table, table_len, call->states,
                                                                             call->inputs, answer, answer_len);
         break;
+    case REACTION_MOVES:
+        side->returned = (library ? krossvil_reaction_moves : reference_reaction_moves)(
+            table, table_len, call->states, call->inputs, call->moves, side->output.sums + side->output.before / 4, output_len / 4,
+            side->path.at + side->path.before, call->path_len, answer, answer_len);
+        break;
     case CONVERT_TABLE:
         side->returned = (library ? krossvil_convert_table : reference_convert_table)(table, table_len, output,
                                                                                       output_len, answer, answer_len);
@@ -957,8 +990,15 @@ static size_t output_size(const struct call *call, const struct side *side)
     case NOTHING: return 0;
     case TABLE: return call->table->len;
     case REPORT: return 8 * report_size(call->table);
+    case SUMS: return 4 * (size_t)call->moves * call->table->at[3];
     default: return length_by(call->entry, side->answer.at + side->answer.before);
     }
+}
+
+/* And of its path buffer. */
+static size_t path_size(const struct call *call, const struct side *side)
+{
+    return side->returned == 0 && call->entry == REACTION_MOVES ? answer_number(&side->answer, 2) : 0;
 }
 
 /* What must hold of a salvaged journal, by the journal check of the reference. */
@@ -1010,8 +1050,82 @@ static const char *badly_added(const struct call *call, const struct side *side)
     return entered == 1 + (uint64_t)number_in(answer, 2) ? NULL : "the entries are not the moves and the first one";
 }
 
+/* The numbers of a table with holds that passes, where they stand in its bytes. */
+struct parts {
+    size_t states, inputs_of_state;
+    uint32_t bound;
+    const uint8_t *next, *holds, *delayed;
+};
+
+static struct parts parts_of(const struct bytes *sound_table)
+{
+    const uint8_t *at = sound_table->at;
+    struct parts parts = { .states = at[3], .inputs_of_state = at[4], .bound = number_in(at + 10, 0) };
+    parts.next = at + 17 + parts.states + 3;
+    parts.holds = parts.next + parts.states * parts.inputs_of_state + 3;
+    parts.delayed = parts.holds + 4 * parts.states + 3;
+    return parts;
+}
+
+static bool has(uint32_t set, size_t member)
+{
+    return member < 32 && (set >> member & 1) != 0;
+}
+
+/* What must hold of a path, told from the table's bytes. Its sum is added to `sum`. */
+static const char *bad_path(const struct call *call, const struct side *side, uint32_t *sum)
+{
+    struct parts parts = parts_of(call->table);
+    const uint8_t *path = side->path.at + side->path.before;
+    uint32_t target = answer_number(&side->answer, 1);
+    size_t length = path_size(call, side);
+    if (length > 0 && (length % 2 == 0 || length > 2 * (size_t)call->moves - 1))
+        return "the path does not end with a state, or has too many";
+    for (size_t k = 0; k < length; k += 2) {
+        size_t q = path[k];
+        if (q >= parts.states || !has(call->states, q) || has(target, q))
+            return "the path has a state outside P, or in the target";
+        if (k > 0 && (!has(call->inputs, path[k - 1]) ||
+                      parts.next[path[k - 2] * parts.inputs_of_state + path[k - 1]] != q))
+            return "the path does not go from next state to next state under A";
+        bool held = number_in(parts.holds, q) > 0 && (number_in(parts.delayed, q) & call->inputs) != 0;
+        *sum += held ? number_in(parts.holds, q) + 2 * parts.bound : parts.bound;
+    }
+    return NULL;
+}
+
+/* What must hold of the answer over several moves: the sums are above 0 just where a path may be, and grow from row to row; the time is E
+ * and the largest of the last row, and that is the sum of the path. */
+static const char *badly_moved(const struct call *call, const struct side *side)
+{
+    struct parts parts = parts_of(call->table);
+    const uint32_t *sums = side->output.sums + side->output.before / 4;
+    uint32_t target = answer_number(&side->answer, 1), largest = 0, sum = 0;
+    for (size_t k = 0; k < call->moves * parts.states; k++) {
+        size_t q = k % parts.states;
+        if ((sums[k] > 0) != (has(call->states, q) && !has(target, q)))
+            return "a sum is 0 where a path begins, or is not where none may";
+        if (k >= parts.states && sums[k] < sums[k - parts.states])
+            return "a sum is smaller than in the row before";
+        if (k / parts.states + 1 == call->moves && sums[k] > largest)
+            largest = sums[k];
+    }
+    if (answer_number(&side->answer, 0) != parts.bound + largest)
+        return "the time is not E and the largest sum";
+    if ((target & ~call->states) != 0 || (call->moves == 0 && target != call->states))
+        return "the target is outside P, or not P for no moves";
+    const char *bad = bad_path(call, side, &sum);
+    return bad != NULL ? bad : sum == largest ? NULL : "the path has not the largest sum";
+}
+
+static bool same_bytes(const struct lent *lent, size_t written, const struct bytes *right)
+{
+    return written == right->len && memcmp(lent->at + lent->before, right->at, written) == 0;
+}
+
 /* What must hold of one side by itself: a refusal changes nothing, a success nothing past the answer and the output, a
- * new table passes, a salvaged journal is accepted, a report has the right sums, and the output is right where that is known. */
+ * new table passes, a salvaged journal is accepted, a report has the right sums, a path is one, and the output is right where that is
+ * known. */
 static const char *broken(const struct call *call, const struct side *side)
 {
     bool success = side->returned == 0;
@@ -1027,12 +1141,19 @@ static const char *broken(const struct call *call, const struct side *side)
         return "success with an output buffer too short";
     if (touched(&side->output, written) != SIZE_MAX)
         return "the output buffer or its guard has changed where it may not";
+    if (path_size(call, side) > call->path_len)
+        return "success with a path buffer too short";
+    if (touched(&side->path, path_size(call, side)) != SIZE_MAX)
+        return "the path buffer or its guard has changed where it may not";
     if (success && call->entry == CONVERT_TABLE &&
         reference_check_table(side->output.at + side->output.before, written) != 0)
         return "the new table does not pass";
-    if (success && call->right != NULL &&
-        (written != call->right->len || memcmp(side->output.at + side->output.before, call->right->at, written) != 0))
+    if (success && call->right != NULL && !same_bytes(&side->output, written, call->right))
         return "the output is not the right one";
+    if (success && call->right_path != NULL && !same_bytes(&side->path, path_size(call, side), call->right_path))
+        return "the path is not the right one";
+    if (success && call->entry == REACTION_MOVES)
+        return badly_moved(call, side);
     if (success && call->entry == REPORT_ADD)
         return badly_added(call, side);
     return success && call->entry == SALVAGE ? badly_salvaged(call, side, written) : NULL;
@@ -1080,12 +1201,19 @@ static void print_case(const char *label, const struct call *call, const char *r
     print_returned("library", library_side.returned);
     print_lent("answer", &reference_side.answer, &library_side.answer);
     print_lent("output", &reference_side.output, &library_side.output);
+    print_lent("path", &reference_side.path, &library_side.path);
     if (call->entry != READ_STAMPED)
         print_bytes("table", call->table->at, call->table->len);
     if (takes != NOTHING)
         print_bytes(form_names[takes], call->input->at, call->input->len);
-    if (call->entry == REACTION)
-        printf("  states %08" PRIX32 ", inputs %08" PRIX32 "\n", call->states, call->inputs);
+    if (call->entry == REACTION || call->entry == REACTION_MOVES)
+        printf("  states %08" PRIX32 ", inputs %08" PRIX32 ", moves %" PRIu32 "\n", call->states, call->inputs, call->moves);
+    if (call->entry == REACTION_MOVES) {
+        printf("  path buffer of %zu bytes\n", call->path_len);
+        if (reference_side.returned == 0)
+            print_bytes("reference's path", reference_side.path.at + reference_side.path.before,
+                        path_size(call, &reference_side));
+    }
     if (entries[call->entry].writes != NOTHING) {
         printf("  output buffer of %zu bytes\n", call->output_len);
         if (call->report != NULL)
@@ -1104,12 +1232,15 @@ static void print_case(const char *label, const struct call *call, const char *r
 /* Calls both sides and compares; `wanted`, if given, is what both must say: the value, then the numbers. Returns whether all is well. */
 static bool compare(const char *label, const struct call *call, const uint64_t *wanted)
 {
-    size_t shift = below(8), before = GUARD - (entries[call->entry].writes == REPORT ? shift % 2 * 8 : shift);
+    enum form writes = entries[call->entry].writes;
+    size_t shift = below(8), before = GUARD - (writes == REPORT ? shift % 2 * 8 : writes == SUMS ? shift % 4 * 4 : shift);
     uint8_t salt = (uint8_t)below(256);
     lend(&reference_side.output, call->output_len, before, salt, call->report);
     lend(&library_side.output, call->output_len, before, salt, call->report);
     lend(&reference_side.answer, call->answer_len, before, salt, NULL);
     lend(&library_side.answer, call->answer_len, before, salt, NULL);
+    lend(&reference_side.path, call->path_len, GUARD - shift, salt, NULL);
+    lend(&library_side.path, call->path_len, GUARD - shift, salt, NULL);
     call_side(call, false, &reference_side);
     call_side(call, true, &library_side);
 
@@ -1120,6 +1251,8 @@ static bool compare(const char *label, const struct call *call, const uint64_t *
         reason = "the answer buffers differ";
     else if (differs_at(&reference_side.output, &library_side.output) != SIZE_MAX)
         reason = "the output buffers differ";
+    else if (differs_at(&reference_side.path, &library_side.path) != SIZE_MAX)
+        reason = "the path buffers differ";
     if (reason == NULL)
         reason = broken(call, &reference_side);
     if (reason == NULL)
@@ -1299,7 +1432,7 @@ static size_t exact_output(enum entry entry)
 }
 
 /* Accepted journals that came back: from the form that the entry reads or writes, or what it had salvaged from it. Of reports, those
- * that several journals were added to in two orders. */
+ * that several journals were added to in two orders; of several moves, questions of one move. */
 static uint64_t came_back[ENTRIES];
 
 static uint64_t counted_twice; /* journals that the reference has counted slot by slot and stretch by stretch */
@@ -1459,6 +1592,90 @@ static void add_in_two_orders(const char *label, const struct plan *plan)
     }
 }
 
+static uint64_t worked_out_twice; /* questions of several moves that the reference has worked out by paths and by rounds */
+
+/* The reference against itself: the paths, where they are few enough to be tried, and the rounds. */
+static void work_out_twice(const char *label, const struct call *call)
+{
+    static struct several by_paths, by_rounds;
+    if (!reference_several(table.at, table.len, call->states, call->inputs, call->moves, BY_PATHS, &by_paths))
+        return;
+    worked_out_twice++;
+    if (!reference_several(table.at, table.len, call->states, call->inputs, call->moves, BY_ROUNDS, &by_rounds) ||
+        memcmp(&by_paths, &by_rounds, sizeof by_paths) != 0) {
+        if (mismatches == 0) {
+            printf("first mismatch: %s: the reference finds something else by paths than by rounds\n", label);
+            print_bytes("table", table.at, table.len);
+            printf("  states %08" PRIX32 ", inputs %08" PRIX32 ", moves %" PRIu32 "\n", call->states, call->inputs, call->moves);
+        }
+        mismatches++;
+    }
+}
+
+/* The same question of one move, in both ways: the same refusal, or the same time and target. */
+static void ask_of_one_move(const char *label, const struct call *several)
+{
+    struct call one = *several;
+    one.moves = 1;
+    one.output_len = 4 * 32;
+    one.path_len = 1;
+    one.answer_len = 12;
+    one.right = one.right_path = NULL;
+    compare(label, &one, NULL);
+    uint64_t wanted[3] = { library_side.returned, 0, 0 };
+    for (size_t k = 0; wanted[0] == 0 && k < 2; k++)
+        wanted[1 + k] = answer_number(&library_side.answer, k);
+    one.entry = REACTION;
+    one.output_len = one.path_len = 0;
+    compare(label, &one, wanted);
+    if (wanted[0] == 0)
+        came_back[REACTION_MOVES]++;
+}
+
+static uint32_t draw_moves(void)
+{
+    static const uint32_t corners[] = { 0, 1, 2, 31, 32, 33, 34, 63, 64, 256, 0x80000000u, UINT32_MAX };
+    return percent(25) ? corners[below(12)] : percent(50) ? between(0, 5) : between(1, 32);
+}
+
+/* The sets of a question, a few of them with members that there are not. */
+static void draw_question(const struct plan *plan, struct call *call)
+{
+    call->inputs = percent(25) ? low_bits(plan->i) : draw_set(plan->i);
+    call->states = draw_states(plan, call->inputs);
+    if (percent(8))
+        call->states = beyond(call->states, plan->q);
+    if (percent(8))
+        call->inputs = beyond(call->inputs, plan->i);
+    if (percent(4))
+        call->states = (uint32_t)draw64();
+}
+
+static size_t draw_room(size_t exact)
+{
+    if (exact > 0 && percent(14))
+        return percent(60) ? exact - 1 : percent(70) ? below((uint32_t)exact) : 0;
+    return percent(50) ? exact : exact + between(1, 40);
+}
+
+static void several_moves_case(const char *label)
+{
+    static struct plan plan;
+    struct call call = { .entry = REACTION_MOVES, .table = &table, .input = &input };
+    enum table_kind kind = percent(55) ? AHEAD : draw_kind(REACTION_MOVES);
+    draw_table(&plan, &table, kind, percent(entries[REACTION_MOVES].damaged));
+    input.len = 0;
+    draw_question(&plan, &call);
+    call.moves = draw_moves();
+    uint32_t rows = call.moves <= 33 ? call.moves : between(0, 33);
+    call.output_len = 4 * draw_room(rows * plan.q);
+    call.path_len = draw_room(rows == 0 ? 0 : 2 * rows - 1);
+    call.answer_len = draw_answer_len(entries[REACTION_MOVES].answer_size);
+    compare(label, &call, NULL);
+    work_out_twice(label, &call);
+    ask_of_one_move(label, &call);
+}
+
 static enum entry draw_entry(void)
 {
     unsigned lot = below(100), entry = CHECK_TABLE;
@@ -1486,16 +1703,8 @@ static void random_case(uint64_t seed, uint64_t number)
         call.right = &other_form;
     if (call.entry == SALVAGE)
         tear();
-    if (call.entry == REACTION) {
-        call.inputs = percent(25) ? low_bits(plan.i) : draw_set(plan.i);
-        call.states = draw_states(&plan, call.inputs);
-        if (percent(8))
-            call.states = beyond(call.states, plan.q);
-        if (percent(8))
-            call.inputs = beyond(call.inputs, plan.i);
-        if (percent(4))
-            call.states = (uint32_t)draw64();
-    }
+    if (call.entry == REACTION)
+        draw_question(&plan, &call);
     if (rewritten)
         call.output_len = draw_output_len(exact_output(call.entry));
     if (writes == REPORT) {
@@ -1505,7 +1714,10 @@ static void random_case(uint64_t seed, uint64_t number)
         count_twice(label);
     }
     call.answer_len = entries[call.entry].answer_size == 0 ? 0 : draw_answer_len(entries[call.entry].answer_size);
-    if (!compare(label, &call, NULL) || library_side.returned != 0)
+    bool success = compare(label, &call, NULL) && library_side.returned == 0;
+    if (call.entry == REACTION)
+        several_moves_case(label);
+    if (!success)
         return;
     if (call.entry == READ_STAMPED && call.right != NULL && accepts_other_form())
         came_back[call.entry]++;
@@ -2303,6 +2515,184 @@ static void all_report_cases(void)
     long_report_case();
 }
 
+/* A question of several moves: what is wanted of it, the row of sums of each round, and the path. */
+static struct bytes right_sums, right_path;
+
+static void add_sum(uint32_t sum)
+{
+    memcpy(right_sums.at + right_sums.len, &sum, 4);
+    right_sums.len += 4;
+}
+
+/* With the sums and the path above, with just the room that it takes, with less of one thing or another, and with more. A refusal that
+ * comes before the room is looked at comes without any too. */
+static void compare_moves(const char *label, uint32_t states, uint32_t inputs, uint32_t moves, const uint64_t *wanted)
+{
+    static const struct {
+        int sums, path, answer; /* how much more or less */
+    } rooms[] = {
+        { 0, 0, 0 }, { -1, 0, 0 },  { 0, -1, 0 },   { 0, 0, -1 },  { -1, 0, -1 }, { 0, -1, -1 },
+        { 1, 0, 0 }, { 0, 1, 0 },   { 7, 9, 20 },   { 9, 9, -12 }, { -1, 9, 9 },  { 9, -1, 9 },
+    };
+    struct call call = { .entry = REACTION_MOVES, .table = &table, .input = &input, .states = states, .inputs = inputs, .moves = moves };
+    size_t places = wanted[0] == 0 ? moves * (size_t)table.at[3] : 0, bytes = wanted[0] == 0 && moves > 0 ? 2 * moves - 1 : 0;
+    call.right = &right_sums;
+    call.right_path = &right_path;
+    for (size_t k = 0; k < sizeof rooms / sizeof *rooms; k++) {
+        bool lacks = (places > 0 && rooms[k].sums < 0) || (bytes > 0 && rooms[k].path < 0);
+        uint64_t otherwise = lacks ? REFUSED(33, 0) : rooms[k].answer < 0 ? REFUSED(30, 0) : 0;
+        call.output_len = 4 * (places + (size_t)(places == 0 && rooms[k].sums < 0 ? 0 : rooms[k].sums));
+        call.path_len = bytes + (size_t)(bytes == 0 && rooms[k].path < 0 ? 0 : rooms[k].path);
+        call.answer_len = 12 + (size_t)rooms[k].answer;
+        compare(label, &call, wanted[0] != 0 || otherwise == 0 ? wanted : &otherwise);
+    }
+    call.right = call.right_path = NULL;
+    ask_of_one_move(label, &call);
+    uint64_t before = worked_out_twice;
+    bool few = (inputs & (inputs - 1)) == 0 || moves <= 8; /* inputs in A, or moves: few enough for the paths to be tried */
+    work_out_twice(label, &call);
+    expect(!few || worked_out_twice - before == (wanted[0] == 0), "a short question was not worked out by paths");
+}
+
+/* The classroom's table: state 0 weighs 3, and state 1 weighs 5 + 2 x 3 where input 0 is in A. Each row of sums is the same. */
+static void classroom_moves_cases(void)
+{
+    static const uint32_t moves[] = { 0, 1, 2, 32, 33, 34, UINT32_MAX };
+    static const struct {
+        uint32_t states, inputs;
+        uint64_t refused; /* for up to 32 moves */
+        uint32_t time, target, row[2], start; /* start: of the path, or 2 if there is none */
+    } questions[] = {
+        { 3, 1, 0, 14, 1, { 0, 11 }, 1 }, { 3, 2, 0, 6, 2, { 3, 0 }, 0 }, { 3, 3, 0, 3, 3, { 0, 0 }, 2 },
+        { 3, 0, 0, 6, 0, { 3, 3 }, 0 },   { 1, 1, 0, 3, 1, { 0, 0 }, 2 }, { 2, 2, 0, 3, 2, { 0, 0 }, 2 },
+        { 2, 0, 0, 6, 0, { 0, 3 }, 1 },   { 0, 3, 0, 3, 0, { 0, 0 }, 2 }, { 2, 1, REFUSED(10, 2), 0, 0, { 0, 0 }, 2 },
+        { 2, 3, REFUSED(10, 2), 0, 0, { 0, 0 }, 2 },       { 1, 3, REFUSED(10, 1), 0, 0, { 0, 0 }, 2 },
+        { 4, 1, REFUSED(9, 0), 0, 0, { 0, 0 }, 2 },        { 3, 4, REFUSED(9, 1), 0, 0, { 0, 0 }, 2 },
+        { UINT32_MAX, UINT32_MAX, REFUSED(9, 0), 0, 0, { 0, 0 }, 2 },
+    };
+    struct plan plan = classroom();
+    size_t starts[6];
+    char label[64];
+
+    write_table(&plan, 2, 2, &table, starts);
+    input.len = 0;
+    for (size_t k = 0; k < sizeof questions / sizeof *questions; k++)
+        for (size_t m = 0; m < sizeof moves / sizeof *moves; m++) {
+            uint32_t n = moves[m];
+            uint64_t wanted[4] = { questions[k].refused, questions[k].time, questions[k].target, questions[k].start < 2 };
+            if (n > 32 && (wanted[0] == 0 || wanted[0] >= REFUSED(10, 0)))
+                wanted[0] = REFUSED(32, 0);
+            if (n == 0) {
+                wanted[1] = 3;
+                wanted[2] = questions[k].states;
+                wanted[3] = 0;
+            }
+            right_sums.len = right_path.len = 0;
+            for (uint32_t row = 0; row < n && n <= 32; row++) {
+                add_sum(questions[k].row[0]);
+                add_sum(questions[k].row[1]);
+            }
+            if (wanted[3] == 1)
+                add(&right_path, questions[k].start);
+            snprintf(label, sizeof label, "classroom, question %zu of %" PRIu32 " moves", k, n);
+            compare_moves(label, questions[k].states, questions[k].inputs, n, wanted);
+        }
+}
+
+/* A chain of 32 states: each leads to the one after it, under both inputs, and the last to itself. Holds are as long as can be, and delay
+ * input 1. From any state, n moves lead to state n or further on, but never past the last. */
+static void chain_cases(void)
+{
+    static const uint32_t moves[] = { 0, 1, 2, 8, 31, 32, 33 };
+    struct plan plan = { .q = 32, .i = 2, .o = 1, .bound = 60000 };
+    size_t starts[6];
+    char label[64];
+
+    for (unsigned q = 0; q < 32; q++) {
+        plan.next[q][0] = plan.next[q][1] = q < 31 ? q + 1 : 31;
+        plan.hold[q] = 3600000;
+        plan.delayed[q] = 2;
+    }
+    write_table(&plan, 32, 2, &table, starts);
+    input.len = 0;
+    for (uint32_t inputs = 1; inputs <= 3; inputs++)
+        for (size_t m = 0; m < sizeof moves / sizeof *moves; m++) {
+            uint32_t n = moves[m], weight = inputs & 2 ? 3720000 : 60000, before = n < 31 ? n : 31; /* so many before the target */
+            uint64_t wanted[4] = { n > 32 ? REFUSED(32, 0) : 0, 60000 + before * weight, UINT32_MAX << before,
+                                   before == 0 ? 0 : 2 * before - 1 };
+            right_sums.len = right_path.len = 0;
+            for (uint32_t k = 0; k < n * 32; k++) {
+                uint32_t row = k / 32, q = k % 32, left = q < before ? before - q : 0;
+                add_sum((left <= row ? left : row + 1) * weight);
+            }
+            for (uint32_t q = 0; q < before; q++) {
+                if (q > 0)
+                    add(&right_path, inputs == 2 ? 1 : 0);
+                add(&right_path, q);
+            }
+            snprintf(label, sizeof label, "chain, inputs %" PRIu32 ", %" PRIu32 " moves", inputs, n);
+            compare_moves(label, UINT32_MAX, inputs, n, wanted);
+        }
+}
+
+/* The mixer of examples/back-to-idle: filling 1, mixing 2, emptying 3, rinsing 4, idle 0. Input 0 is stop. */
+static void back_to_idle_cases(void)
+{
+    static const uint32_t rows[4][3][5] = { { { 0 } },
+                                            { { 0, 2, 9, 0, 0 } },
+                                            { { 0, 2, 9, 34, 0 }, { 0, 36, 43, 34, 0 } },
+                                            { { 0, 2, 9, 34, 16 }, { 0, 36, 43, 50, 16 }, { 0, 52, 59, 50, 16 } } };
+    static const uint64_t wanted[4][4] = { { 0, 2, 31, 0 }, { 0, 11, 25, 1 }, { 0, 45, 17, 3 }, { 0, 61, 1, 5 } };
+    static const uint8_t path[] = { 2, 0, 3, 0, 4 };
+    struct plan plan = { .q = 5, .i = 2, .o = 5, .bound = 2, .output = { 0, 1, 2, 3, 4 },
+                         .next = { { 0, 1 }, { 3, 2 }, { 3, 2 }, { 4, 4 }, { 0, 1 } },
+                         .hold = { 0, 0, 5, 30, 12 }, .delayed = { 0, 0, 1, 3, 3 } };
+    size_t starts[6];
+    char label[64];
+
+    write_table(&plan, 5, 2, &table, starts);
+    input.len = 0;
+    for (uint32_t n = 0; n < 4; n++) {
+        right_sums.len = right_path.len = 0;
+        for (size_t k = 0; k < 5 * n; k++)
+            add_sum(rows[n][k / 5][k % 5]);
+        for (size_t k = 0; k < wanted[n][3]; k++)
+            add(&right_path, path[k]);
+        snprintf(label, sizeof label, "back to idle, %" PRIu32 " moves", n);
+        compare_moves(label, 31, 1, n, wanted[n]);
+    }
+    right_sums.len = right_path.len = 0;
+    for (size_t k = 0; k < 5 * 4; k++)
+        add_sum(0);
+    compare_moves("back to idle, stop and go", 31, 3, 4, (const uint64_t[]){ 0, 2, 31, 0 });
+    right_sums.len = 0;
+    compare_moves("back to idle, without idle", 30, 1, 4, (const uint64_t[]){ REFUSED(10, 8) });
+}
+
+/* A table with a timer; and the first table with a byte less: the table's refusals come before all others. */
+static void refused_moves_cases(void)
+{
+    struct plan with_timer = classroom_with_timer(), plan = classroom();
+    size_t starts[6];
+    input.len = 0;
+    right_sums.len = right_path.len = 0;
+    write_table(&with_timer, 2, 2, &table, starts);
+    for (uint32_t moves = 0; moves < 34; moves += 11)
+        compare_moves("several moves with a timer", 4, 4, moves, (const uint64_t[]){ REFUSED(14, 0) });
+    write_table(&plan, 2, 2, &table, starts);
+    table.len--;
+    for (uint32_t moves = 0; moves < 34; moves += 11)
+        compare_moves("several moves, half a table", 4, 4, moves, (const uint64_t[]){ REFUSED(1, 37) });
+}
+
+static void all_moves_cases(void)
+{
+    classroom_moves_cases();
+    chain_cases();
+    back_to_idle_cases();
+    refused_moves_cases();
+}
+
 /* ---- the whole ---- */
 
 static bool can_give(enum entry entry, unsigned number)
@@ -2315,7 +2705,9 @@ static bool can_give(enum entry entry, unsigned number)
         return entry != CONVERT_TABLE; /* it reads by the old rules */
     if (number == 30)
         return entry != CHECK_TABLE;
-    if (entry == REACTION)
+    if (entry == REACTION_MOVES && (number == 32 || number == 33))
+        return true;
+    if (entry == REACTION || entry == REACTION_MOVES)
         return number == 9 || number == 10 || number == 14;
     if (entry == SALVAGE)
         return number >= 19 && number <= 23; /* all that is wrong behind the opening field is salvaged */
@@ -2383,10 +2775,14 @@ static uint64_t print_came_back(uint64_t *seen)
             ++*seen;
     }
     printf("accepted journals, counted by slots and by stretches: %" PRIu64 "\n", counted_twice);
-    if (counted_twice == 0)
-        away++;
-    else
-        ++*seen;
+    printf("questions of several moves, worked out by paths and by rounds: %" PRIu64 "\n", worked_out_twice);
+    printf("questions of one move, asked in both ways: %" PRIu64 "\n", came_back[REACTION_MOVES]);
+    const uint64_t others[] = { counted_twice, worked_out_twice, came_back[REACTION_MOVES] };
+    for (size_t k = 0; k < sizeof others / sizeof *others; k++)
+        if (others[k] == 0)
+            away++;
+        else
+            ++*seen;
     return away;
 }
 
@@ -2418,6 +2814,7 @@ int main(int argc, char **argv)
     salvage_cases();
     last_cut_cases();
     all_report_cases();
+    all_moves_cases();
     uint64_t asserted = passed, wrong = mismatches;
     for (uint64_t number = 0; number < cases; number++)
         random_case(seed, number);

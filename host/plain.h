@@ -24,4 +24,7 @@ uint64_t plain_run(const uint8_t *table, size_t table_len, const uint8_t *stimul
 uint64_t plain_reaction(const uint8_t *table, size_t table_len, uint32_t states, uint32_t inputs, uint8_t *answer,
                         size_t answer_len);
 
+uint64_t plain_reaction_moves(const uint8_t *table, size_t table_len, uint32_t states, uint32_t inputs, uint32_t moves, uint32_t *sums,
+                              size_t sums_len, uint8_t *path, size_t path_len, uint8_t *answer, size_t answer_len);
+
 #endif

@@ -1,4 +1,4 @@
-/* A second implementation of the eleven entries in plain C, written from the rules alone. The library is
+/* A second implementation of the twelve entries in plain C, written from the rules alone. The library is
  * held against it. Each entry returns 0, or refusal number * 2^32 + place; on success the answer's numbers stand at
  * the start of `answer`, four bytes each, most significant byte first.
  *
@@ -6,6 +6,7 @@
  *   check_journal  T, ticks, moves, last state, its output, the most ticks left at a test, the longest cycle
  *   run            the journal's length
  *   reaction       reaction time, target
+ *   reaction_moves the same of several moves, and the length of the path in bytes; the sums and the path are written beside it
  *   convert_table  how many states have changed
  *   read_stamped   the journal's length
  *   check_short    as check_journal
@@ -18,6 +19,7 @@
 #ifndef REFERENCE_H
 #define REFERENCE_H
 
+#include <stdbool.h>
 #include <stddef.h>
 #include <stdint.h>
 
@@ -26,6 +28,8 @@
 #define reference_check_journal second_check_journal
 #define reference_run second_run
 #define reference_reaction second_reaction
+#define reference_reaction_moves second_reaction_moves
+#define reference_several second_several
 #define reference_convert_table second_convert_table
 #define reference_read_stamped second_read_stamped
 #define reference_check_short second_check_short
@@ -46,6 +50,10 @@ uint64_t reference_run(const uint8_t *table, size_t table_len, const uint8_t *st
 
 uint64_t reference_reaction(const uint8_t *table, size_t table_len, uint32_t states, uint32_t inputs,
                             uint8_t *answer, size_t answer_len);
+
+uint64_t reference_reaction_moves(const uint8_t *table, size_t table_len, uint32_t states, uint32_t inputs, uint32_t moves,
+                                  uint32_t *sums, size_t sums_len, uint8_t *path, size_t path_len, uint8_t *answer,
+                                  size_t answer_len);
 
 uint64_t reference_convert_table(const uint8_t *table, size_t table_len, uint8_t *new_table, size_t new_table_len,
                                  uint8_t *answer, size_t answer_len);
@@ -74,5 +82,20 @@ enum counting { BY_SLOTS, BY_STRETCHES };
 
 size_t reference_tally(const uint8_t *table, size_t table_len, const uint8_t *journal, size_t journal_len,
                        enum counting counting, uint64_t *numbers);
+
+/* What several moves come to: worked out by the paths themselves, tried one by one, which is what the rules say, or by rounds, a row of
+ * sums from the row before. Returns whether it could be: false if the question is refused, whatever the room, or has too many paths. */
+enum way { BY_PATHS, BY_ROUNDS };
+
+struct several {
+    uint32_t time, target;
+    uint32_t largest;       /* sum: the time without E */
+    uint32_t sums[33 * 32]; /* rows of Q, one for each move; and one row more for a fault */
+    uint32_t path_len;
+    uint8_t path[65];
+};
+
+bool reference_several(const uint8_t *table, size_t table_len, uint32_t states, uint32_t inputs, uint32_t moves, enum way way,
+                       struct several *several);
 
 #endif

@@ -18,6 +18,8 @@ static const uint8_t *table;
 static size_t table_len;
 static uint8_t stimulus[KROSSVIL_STIMULUS_MAX], journal[KROSSVIL_JOURNAL_MAX], new_table[sizeof holds];
 static uint64_t report[1 + 2 + 1]; /* for one state and one input */
+static uint8_t chain[14 + 3 + 32 + 3 + 32 * 32 + 2 * (3 + 4 * 32)], path[KROSSVIL_PATH_MAX];
+static uint32_t sums[KROSSVIL_SUMS_MAX];
 static uint8_t salvaged[KROSSVIL_JOURNAL_MAX], stamped[KROSSVIL_STAMPED_MAX], short_journal[KROSSVIL_SHORT_MAX], answer[KROSSVIL_JOURNAL_ANSWER];
 static size_t stimulus_len, journal_len, stamped_len, short_len;
 static _Alignas(16) uint8_t stack[ROOM];
@@ -54,6 +56,20 @@ static void make_stamped(void)
     stamped_len = (size_t)(b - stamped) + 5;
 }
 
+/* 32 states and 32 inputs with no hold: under every input each state leads to the one after it, and the last stays. The longest path. */
+static void make_chain(void)
+{
+    uint8_t *b = chain;
+    memcpy(b, (uint8_t[]){ 1, 0, 4, 32, 32, 1, 0, 2, 0, 4, 0, 0, 0xEA, 0x60, 3, 0, 32 }, 17);
+    b += 17 + 32;
+    memcpy(b, (uint8_t[]){ 4, 4, 0 }, 3);
+    for (unsigned k = 0; k < 32 * 32; k++)
+        b[3 + k] = (uint8_t)(k / 32 < 31 ? k / 32 + 1 : 31);
+    b += 3 + 32 * 32;
+    memcpy(b, (uint8_t[]){ 5, 0, 128 }, 3);
+    memcpy(b + 3 + 128, (uint8_t[]){ 6, 0, 128 }, 3);
+}
+
 static void check_table(void)
 {
     code = krossvil_check_table(table, table_len);
@@ -72,6 +88,12 @@ static void run(void)
 static void reaction(void)
 {
     code = krossvil_reaction(table, table_len, 1, 1, answer, sizeof answer);
+}
+
+static void reaction_moves(void)
+{
+    code = krossvil_reaction_moves(chain, sizeof chain, UINT32_MAX, UINT32_MAX, KROSSVIL_MOVES_MAX, sums, KROSSVIL_SUMS_MAX, path,
+                                   sizeof path, answer, sizeof answer);
 }
 
 static void convert_table(void)
@@ -129,7 +151,7 @@ static int measure(const char *name, void (*call)(void), size_t promised)
     while (left < sizeof stack && stack[left] == PAINT)
         left++;
     int good = code == 0 && sizeof stack - left <= promised;
-    printf("%-13s %6zu bytes of stack, at most %6zu: %s\n", name, sizeof stack - left, promised, good ? "ok" : "WRONG");
+    printf("%-14s %6zu bytes of stack, at most %6zu: %s\n", name, sizeof stack - left, promised, good ? "ok" : "WRONG");
     return good;
 }
 
@@ -162,9 +184,11 @@ int main(void)
     int passed = measure_on("timers", timers, sizeof timers);
     passed += measure_on("holds", holds, sizeof holds);
     passed += measure("reaction", reaction, KROSSVIL_STACK);
+    make_chain();
+    passed += measure("reaction_moves", reaction_moves, KROSSVIL_STACK);
     passed += measure("convert_table", convert_table, KROSSVIL_STACK);
     make_stamped();
     passed += measure("read_stamped", read_stamped, KROSSVIL_RUN_STACK);
-    printf("%d passed, %d failed\n", passed, 23 - passed);
-    return passed != 23;
+    printf("%d passed, %d failed\n", passed, 24 - passed);
+    return passed != 24;
 }

@@ -97,7 +97,7 @@ fi
 called=("$library")
 if [ "$self" = yes ]; then
     called=("$out/differential-second.o")
-    for entry in check_table check_journal run reaction convert_table read_stamped check_short shorten lengthen salvage report_add; do
+    for entry in check_table check_journal run reaction reaction_moves convert_table read_stamped check_short shorten lengthen salvage report_add; do
         called+=("-Dkrossvil_$entry=second_$entry")
     done
 fi
@@ -201,6 +201,43 @@ season 0 "$out/other-order.txt" table.bin late.bin early.bin
 season 0 "$out/of-salvaged.txt" table.bin ../torn-journal/salvaged.bin
 season 0 "$out/of-none.txt" table.bin
 season 1 "$out/of-old-table.txt" ../idle-sets/old-table.bin early.bin
+
+echo "== the example of several moves"
+compile examples/moves.c "${called[@]}" "${link[@]}" -o "$out/moves" || stop "did not build"
+moves() { # STATUS PRINTED WORDS: run with these words, it ends with the status and prints this file
+    local status=$1 printed=$2
+    shift 2
+    "${run[@]}" "$out/moves" "$@" >"$out/moves.log"
+    if [ "$?" -eq "$status" ] && diff "$printed" "$out/moves.log"; then
+        cat "$out/moves.log"
+        passed=$((passed + 1))
+    else
+        echo "moves $*: it did not end with status $status, or printed something else than $printed"
+        failed=$((failed + 1))
+    fi
+}
+idle=examples/back-to-idle
+printf '%s\n' 'within 45 to the states of the set 17' 'row 0: 0 2 9 34 0' 'row 1: 0 36 43 34 0' \
+    'path: state 2 input 0 state 3' >"$out/two-moves.txt"
+{ sed 4q "$idle/moves.txt"; echo 'row 3: 0 52 59 50 16'; sed -n 5p "$idle/moves.txt"; } >"$out/four-moves.txt"
+printf '%s\n' 'within 2 to the states of the set 31' 'path: none' >"$out/no-moves.txt"
+printf '%s\n' 'within 2 to the states of the set 31' 'row 0: 0 0 0 0 0' 'path: none' >"$out/stop-and-go.txt"
+moves 0 "$idle/moves.txt" "$idle/table.bin" 31 1 3
+moves 0 "$out/two-moves.txt" "$idle/table.bin" 31 1 2
+moves 0 "$out/four-moves.txt" "$idle/table.bin" 31 1 4
+moves 0 "$out/no-moves.txt" "$idle/table.bin" 31 1 0
+moves 0 "$out/stop-and-go.txt" "$idle/table.bin" 31 3 1
+refused() { # REFUSAL WORDS
+    echo "refused $1" >"$out/refused.txt"
+    shift
+    moves 1 "$out/refused.txt" "$@"
+}
+refused '10 at 8' "$idle/table.bin" 30 1 3
+refused '9 at 0' "$idle/table.bin" 32 1 33
+refused '9 at 1' "$idle/table.bin" 31 4 33
+refused '32 at 0' "$idle/table.bin" 30 1 33
+refused '14 at 0' examples/gas-burner/table.bin 32 1 33
+refused '11 at 40' examples/idle-sets/old-table.bin 4 4 33
 
 if [ "$self" = no ]; then
     echo "== the stack that the functions need"

@@ -1,14 +1,14 @@
 /*
- * krossvil: a table check, a journal check, a runtime, a reaction calculator, a converter of old tables, a reader of stamped
- * journals, for short journals a check and the ways to and from journals, salvage of torn journals, and a report of where the time of
- * many journals went; for polling controllers, and a host program in C.
+ * krossvil: a table check, a journal check, a runtime, a reaction calculator for one move and for several, a converter of old tables, a
+ * reader of stamped journals, for short journals a check and the ways to and from journals, salvage of torn journals, and a report of
+ * where the time of many journals went; for polling controllers, and a host program in C.
  *
  * Link with libkrossvil.a (x86-64). The functions keep no state, allocate nothing, call only memcpy and memset, and never stop the program:
  * each ends with an answer on any bytes. How much stack they need is below; that is measured, not proved.
  *
  * Slices. A slice is a pointer and the number of bytes at it. The pointer is never null, not even if the number is 0, and a slice
- * that a function writes to (without const) shares no byte with another slice of the same call. One slice has numbers in the place
- * of bytes, the report of krossvil_report_add.
+ * that a function writes to (without const) shares no byte with another slice of the same call. Two slices have numbers in the place
+ * of bytes, in the processor's own byte order: the sums of krossvil_reaction_moves and the report of krossvil_report_add.
  *
  * The number that comes back. 0 is success. Otherwise it is refusal number * 2^32 + place: krossvil_number and krossvil_place
  * below take it apart. On a refusal no byte of any slice has changed.
@@ -66,7 +66,7 @@
  *   With n records between opening and end a short journal has 9 + 6*n bytes, and the journal that it stands for 11 + 8*n. So one of
  *   more than 49,152 bytes, with 8,191 records or more, stands for a journal that would be too long.
  *
- * Refusals. A place is a byte offset, counted from 0, in the bytes that were turned down, save for 9, 10 and 14.
+ * Refusals. A place is a byte offset, counted from 0, in the bytes that were turned down, save for 9, 10, 14, 32 and 33.
  *      1  table runs out before field 06, or 08, is complete      start of the field
  *      2  table field has the wrong tag or length                 start of the field
  *      3  a count or the initial state is out of range            start of the field
@@ -98,13 +98,17 @@
  *     30  buffer shorter than the journal, the short journal or
  *         the table that is written; any function with an
  *         answer: it is too short; the report is too short        0
+ *     32  several moves: more than 32                             0
+ *     33  several moves: fewer sums than moves*Q, or a path of
+ *         fewer bytes than 2*moves - 1, for 0 moves than none     0
  *     34  lengthening: the journal would pass 65,536 bytes        0
  *     35  the report has 1,000 journals already                   0
  *
  * The table's refusals, 1 to 8 and 11 to 13, come before all others: field by field; in field 06 entry by entry, each for 7 and
  * then for 11; in field 07 timer by timer, each for 13 at its length and then for 12 at its region; 8 is the last of them. Then,
  * of a journal, a stimulus or a short journal, 19, and field by field 20 to 28; of a stamped journal, which has no table, 19, and
- * field by field 20 to 22; of the calculator, 14, 9 for the states, 9 for the inputs, 10. Then, of krossvil_lengthen, 34. Then 30.
+ * field by field 20 to 22; of the calculator, 14, 9 for the states, 9 for the inputs, 10; of several moves the same with 32 before 10
+ * and 33 after it. Then, of krossvil_lengthen, 34. Then 30.
  * Of krossvil_report_add, after those of the journal, 30 if the report has no number at all, then 35, then 30.
  * krossvil_salvage gives 20 to 23 only at 0, for the opening field: it salvages from all that is wrong behind that.
  * The table check has no answer, and gives 1 to 8 and 11 to 13 only. The converter gives none of 11 to 14: it takes tables with holds
@@ -132,12 +136,17 @@ extern "C" {
 #define KROSSVIL_JOURNAL_ANSWER 28u /* bytes of answer on success: T, ticks, moves, last state, its output, left, longest */
 #define KROSSVIL_RUN_ANSWER 4u      /* the journal's length in bytes */
 #define KROSSVIL_REACTION_ANSWER 8u /* reaction time, target set */
+#define KROSSVIL_MOVES_ANSWER 12u   /* reaction time, target set, the path's length in bytes */
 #define KROSSVIL_CONVERT_ANSWER 4u  /* how many states have changed */
 #define KROSSVIL_STAMPED_ANSWER 4u  /* the journal's length in bytes */
 #define KROSSVIL_SHORT_ANSWER 28u   /* as that of a journal */
 #define KROSSVIL_SHORTEN_ANSWER 4u  /* the short journal's length in bytes */
 #define KROSSVIL_LENGTHEN_ANSWER 4u /* the journal's length in bytes */
 #define KROSSVIL_SALVAGE_ANSWER 16u /* bytes kept, bytes dropped, number and place of the refusal that stopped it */
+
+#define KROSSVIL_MOVES_MAX 32u  /* moves of one question */
+#define KROSSVIL_SUMS_MAX 1024u /* numbers, not bytes: so many sums are never too few */
+#define KROSSVIL_PATH_MAX 63u   /* a path of so many bytes is never too short */
 
 #define KROSSVIL_REPORT_MAX 1089u      /* numbers, not bytes: a report of so many is never too short */
 #define KROSSVIL_REPORT_JOURNALS 1000u /* so many journals one report takes */
@@ -161,6 +170,35 @@ uint64_t krossvil_run(const uint8_t *table, size_t table_len, const uint8_t *sti
  * times, the target set. */
 uint64_t krossvil_reaction(const uint8_t *table, size_t table_len, uint32_t states, uint32_t inputs,
                            uint8_t *answer, size_t answer_len);
+
+/* How long until the state is in the target of several moves, once it stays in `states` and the input in `inputs`? For so many moves, 0
+ * to 32, the target is what next(S, inputs), the set of every next(s, a), makes of S when it is applied so many times to `states`. A path
+ * is a row of states, all in `states` and outside the target, each a next state of the one before under an input of `inputs`; a state
+ * weighs E, or hold + 2*E if it has a hold and delays one of `inputs`. The time is E and the largest sum of weights along a path of at
+ * most so many states; with no path the sum is 0.
+ * sums is sums_len numbers of 32 bits, in the processor's own byte order, aligned to 4 bytes. It gets a row of Q for each move: at r*Q + q
+ * stands the largest sum of a path of at most r + 1 states that begins at q, 0 for a state in the target or outside `states`. Numbers
+ * past the last row, moves*Q in all (krossvil_sums_len below), are unchanged.
+ * path gets one worst path, a byte for each state, and between two states one for the input that leads on: the smallest state at which a
+ * path with the largest sum begins, then at each state the smallest input that keeps the sum largest; it ends with a state. The bytes
+ * past it are unchanged. With k states it has 2*k - 1 bytes, and none if there is no path; but there must be room for 2*moves - 1
+ * (krossvil_path_len below).
+ * A table with timers is refused (14). 10 comes for 0 moves too. Answer, 12 bytes: the reaction time, the target set, the path's length in
+ * bytes. For one move, time and target are those of krossvil_reaction, and so are the refusals but for 33 and 30. */
+uint64_t krossvil_reaction_moves(const uint8_t *table, size_t table_len, uint32_t states, uint32_t inputs, uint32_t moves,
+                                 uint32_t *sums, size_t sums_len, uint8_t *path, size_t path_len,
+                                 uint8_t *answer, size_t answer_len);
+
+/* How many sums there must be, for so many states and moves, and how many bytes of path. */
+static inline size_t krossvil_sums_len(uint32_t states, uint32_t moves)
+{
+    return (size_t)states * moves;
+}
+
+static inline size_t krossvil_path_len(uint32_t moves)
+{
+    return moves == 0 ? 0 : 2 * (size_t)moves - 1;
+}
 
 /* For a table with holds that was made before there was 11. Write it at the start of `new_table`, with the delayed set emptied at
  * each state whose hold is 0, where it never had an effect: the new table has as many bytes, passes, and behaves the same in every

@@ -14,6 +14,8 @@ use Rattle.runtime.specs.declared.Answer as runtime′
 use Rattle.runtime.specs.declared.Answer.the-variants as made
 use Rattle.runtime.specs.Answer as run-answer
 use Rattle.runtime.specs.Run.{runOf, answerOf}
+use Rattle.moves.specs.Answer as moves-answer
+use Rattle.moves.proofs.Kept.{refusal-keeps}
 use Rattle.convert.specs.declared.Answer as convert′
 use Rattle.convert.specs.declared.Answer.the-variants as done
 use Rattle.convert.specs.Answer as convert-answer
@@ -38,7 +40,12 @@ use Rattle.krossvil.proofs.Stamps.{stamped-gives}
 use Rattle.krossvil.proofs.Restates.{shorten-gives, lengthen-gives}
 use Rattle.krossvil.proofs.Salvages.{salvage-gives}
 use Rattle.krossvil.proofs.Reports.{report-numbered}
-use Rattle.krossvil.specs.Host.{told, codeOf, numberBytes, answerAfter, journalTold, shortTold, bufferAfter, reactionTold, reportTold}
+use Rattle.krossvil.specs.Host.{told, codeOf, numberBytes, answerAfter, journalTold, shortTold, bufferAfter, reactionTold, movesTold, reportTold}
+use Rattle.moves.specs.declared.Judged as judged′
+use Rattle.moves.specs.declared.Judged.the-variants as judged
+use Rattle.moves.specs.declared.Answer as moves′
+use Rattle.moves.specs.declared.Answer.the-variants as reacted
+use Rattle.moves.specs.Moves.{movesOf}
 use Rattle.laws.proofs.Never28.{never-differs}
 use Rattle.demands.specs.Contracts.{EveryEntryDetermines, EveryRefusalKeeps, RunNeverDiffers}
 
@@ -114,6 +121,22 @@ salvage-numbered salvaged.TooLong = refl
 salvage-numbered (salvaged.Refused refusal place) = refusal-numbered refusal
 salvage-numbered salvaged.BufferTooShort = refl
 
+-- ---- Several moves
+
+judged-numbered : (j : judged′.Judged) → Numbered (moves-answer.refusalOf j)
+judged-numbered judged.Passes = tt
+judged-numbered (judged.TableRefused answer) = table-fine answer
+judged-numbered judged.HasTimers = refl
+judged-numbered judged.UnknownState = refl
+judged-numbered judged.UnknownInput = refl
+judged-numbered judged.TooManyMoves = refl
+judged-numbered (judged.LeavesStates at) = refl
+judged-numbered judged.NoRoom = refl
+
+moves-numbered : (a : moves′.Answer) → Numbered (moves-answer.replyOf a)
+moves-numbered (reacted.Reacts r) = tt
+moves-numbered (reacted.Refused j) = judged-numbered j
+
 -- ---- The entries
 
 -- Slices that are left as one another.
@@ -123,12 +146,19 @@ one e = ap (λ x. x ∷ []) e
 two : {x x′ y y′ : List ℕ} → x ≡ x′ → y ≡ y′ → _≡_ {A = List (List ℕ)} (x ∷ y ∷ []) (x′ ∷ y′ ∷ [])
 two e f = rw (e, f) refl
 
+three : {x x′ y y′ z z′ : List ℕ} → x ≡ x′ → y ≡ y′ → z ≡ z′ → _≡_ {A = List (List ℕ)} (x ∷ y ∷ z ∷ []) (x′ ∷ y′ ∷ z′ ∷ [])
+three e f g = rw (e, f, g) refl
+
 pub every-entry-determines : EveryEntryDetermines
 every-entry-determines = (
   record { asks-nothing = λ κs a. tt; one-outcome = λ κs a r r′ s s′ p p′. (p ∙ sym p′, refl) },
   record { asks-nothing = λ κs a. tt; one-outcome = λ κs a r r′ s s′ p p′. (p ∙ sym p′, refl) },
   record { asks-nothing = λ κs a. tt; one-outcome = λ κs a r r′ s s′ p p′. (p .0 ∙ sym (p′ .0), one (p .1 ∙ sym (p′ .1))) },
   record { asks-nothing = λ κs a. tt; one-outcome = λ κs a r r′ s s′ p p′. (p ∙ sym p′, refl) },
+  record {
+    asks-nothing = λ κs a. tt;
+    one-outcome = λ κs a r r′ s s′ p p′. (p .0 ∙ sym (p′ .0), two (p .1 .0 ∙ sym (p′ .1 .0)) (p .1 .1 ∙ sym (p′ .1 .1)));
+  },
   record { asks-nothing = λ κs a. tt; one-outcome = λ κs a r r′ s s′ p p′. (p .0 ∙ sym (p′ .0), one (p .1 ∙ sym (p′ .1))) },
   record { asks-nothing = λ κs a. tt; one-outcome = λ κs a r r′ s s′ p p′. (p .0 ∙ sym (p′ .0), one (p .1 ∙ sym (p′ .1))) },
   record { asks-nothing = λ κs a. tt; one-outcome = λ κs a r r′ s s′ p p′. (p ∙ sym p′, refl) },
@@ -144,6 +174,11 @@ every-entry-determines = (
     one-outcome = λ κs a r r′ s s′ p p′. (p .0 ∙ sym (p′ .0), two (p .1 .1 ∙ sym (p′ .1 .1)) (p .1 .0 ∙ sym (p′ .1 .0)));
   },
   record { asks-nothing = λ κs a. tt; one-outcome = λ κs a r r′ s s′ p p′. (p .0 ∙ sym (p′ .0), one (p .1 ∙ sym (p′ .1))) },
+  record {
+    asks-nothing = λ κs a. tt;
+    one-outcome = λ κs a r r′ s s′ p p′.
+        (p .0 ∙ sym (p′ .0), three (p .1 .1 .0 ∙ sym (p′ .1 .1 .0)) (p .1 .1 .1 ∙ sym (p′ .1 .1 .1)) (p .1 .0 ∙ sym (p′ .1 .0)));
+  },
   record {
     asks-nothing = λ κs a. tt;
     one-outcome = λ κs a r r′ s s′ p p′. (p .0 ∙ sym (p′ .0), two (p .1 .1 ∙ sym (p′ .1 .1)) (p .1 .0 ∙ sym (p′ .1 .0)));
@@ -174,6 +209,11 @@ every-refusal-keeps = (
       one (p .1 ∙ made-kept run-answer.replyOf made.BufferTooShort 1 (runOf (now (a .0)) (now (a .1 .0))) (run-gives (now (a .0)) (now (a .1 .0)))
       (now (a .1 .1 .0)) (λ e. other (ap (λ x. numberIn (run-answer.replyOf x)) (p .0) ∙ e))),
   λ κs a r s p other.
+      let kept =
+      refusal-keeps (now (a .0)) (a .1 .0) (a .1 .1 .0) (a .1 .1 .1 .0) (now (a .1 .1 .1 .1 .0)) (now (a .1 .1 .1 .1 .1 .0))
+      (λ e. other (ap (λ x. numberIn (moves-answer.replyOf x)) (p .0) ∙ e)) in
+      two (p .1 .0 ∙ kept .0) (p .1 .1 ∙ kept .1),
+  λ κs a r s p other.
       one (p .1 ∙ made-kept convert-answer.replyOf done.BufferTooShort 1 (madeOf (now (a .0))) (convert-gives (now (a .0))) (now (a .1 .0))
       (λ e. other (ap (λ x. numberIn (convert-answer.replyOf x)) (p .0) ∙ e))),
   λ κs a r s p other.
@@ -199,6 +239,14 @@ every-refusal-keeps = (
   λ κs a r s p other.
       let answer = now (a .1 .1 .1 .0) in
       one (p .1 ∙ answer-kept (reactionTold (now (a .0)) (a .1 .0) (a .1 .1 .0) (length answer)) answer (λ e. other (p .0 ∙ e))),
+  λ κs a r s p other.
+      let sums = now (a .1 .1 .1 .1 .0) in
+      let path = now (a .1 .1 .1 .1 .1 .0) in
+      let answer = now (a .1 .1 .1 .1 .1 .1 .0) in
+      let told-as = movesTold (now (a .0)) (a .1 .0) (a .1 .1 .0) (a .1 .1 .1 .0) (length sums) (length path) (length answer) in
+      let numbered = told-numbered _ (length answer) (moves-numbered (movesOf (now (a .0)) (a .1 .0) (a .1 .1 .0) (a .1 .1 .1 .0) (length sums) (length path))) in
+      let refused : codeOf told-as ≡ 0 → ⊥ = λ e. other (p .0 ∙ e) in
+      three (p .1 .1 .0 ∙ buffer-kept told-as numbered _ sums refused) (p .1 .1 .1 ∙ buffer-kept told-as numbered _ path refused) (p .1 .0 ∙ answer-kept told-as answer refused),
   λ κs a r s p other.
       let buffer = now (a .1 .0) in
       let told-as = answerIn done.BufferTooShort (madeOf (now (a .0))) (length buffer) in

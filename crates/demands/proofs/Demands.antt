@@ -1,18 +1,14 @@
 -- Acceptance and demand 3, as specs/Demands states them.
 use mathlib.Core.Path.{_≡_, refl, sym, _∙_}
 use mathlib.Core.List.{List, [], _∷_, _++_}
-use mathlib.Core.Bool.{Bool, true, false}
 use mathlib.Core.Logic.{_⊎_, inl, inr}
-use Prim.Native.Nat.{ℕ, zero, suc, _+_, _*_, _≤_}
+use Prim.Native.Nat.{ℕ, zero, suc, _≤_}
 use native.Mathlib.Omega.{arith}
-use borrow.Author.Tests.{lt-ltb}
 use lib.ListN.{length}
-use Rattle.wire.specs.Choice.{_<?_, _and_, if_then_else_}
 use Rattle.wire.specs.Encode.{Bytes}
-use Rattle.sets.specs.Sets.{member, some}
-use Rattle.sets.proofs.Members.{some-if}
+use Rattle.sets.specs.Sets.{member}
 use Rattle.table.specs.declared.Table.{Table}
-use Rattle.table.specs.Table.{outputOf, holdOf, delays, WellFormed}
+use Rattle.table.specs.Table.{outputOf, WellFormed}
 use Rattle.table.specs.Encode as tables
 use Rattle.records.specs.declared.Record.{Record}
 use Rattle.records.specs.declared.Record.the-variants.{End}
@@ -32,21 +28,23 @@ use Rattle.journal.specs.declared.Numbers.{Numbers}
 use Rattle.journal.specs.declared.Answer.the-variants.{Accepted}
 use Rattle.journal.specs.Check.{checkOf}
 use Rattle.reaction.specs.declared.Answer.the-variants.{Reacts}
-use Rattle.reaction.specs.Reaction.{weightOf, weight, reactOf}
-use Rattle.reaction.specs.Meaning.{Known, Slowest, Reaction}
+use Rattle.reaction.specs.Reaction.{reactOf}
+use Rattle.reaction.specs.Meaning.{Slowest, Reaction}
 use Rattle.wire.proofs.Apart.{apart}
 use Rattle.machine.proofs.Watches.{no-regions}
 use Rattle.reaction.proofs.Entry.{entry-means, entry-refuses}
 use Rattle.runs.specs.Accepted as runs
-use Rattle.runs.specs.Reaction.{Weights}
 use Rattle.runs.specs.Slots as slots
 use Rattle.runs.proofs.Automaton.{machine-is-automaton}
 use Rattle.runs.proofs.Soon.{not-too-soon, not-too-soon-by}
 use Rattle.runs.proofs.OneMove.{one-move}
 use Rattle.laws.specs.Journals.{JournalOf, AcceptedRun}
+use Rattle.laws.proofs.InTime.{weights, moves-in-time}
+use Rattle.moves.proofs.Fitting.{fits}
+use Rattle.laws.proofs.Moves.{answered}
 use Rattle.laws.proofs.Tables.{holds-that-table}
 use Rattle.laws.proofs.Journals.{ends-at, left-end, under, accepts-exactly, checks-exactly}
-use Rattle.demands.specs.Demands.{Holds, HoldsRun, LeftTold, LongestTold, AcceptedIsRun, LeftIsMost, LongestIsCycle, AcceptedJournal, NotTooSoon, NotTooSoonBy, NotTooLate}
+use Rattle.demands.specs.Demands.{Holds, HoldsRun, LeftTold, LongestTold, AcceptedIsRun, LeftIsMost, LongestIsCycle, AcceptedJournal, NotTooSoon, NotTooSoonBy, NotTooLate, NotTooLateByMoves}
 
 -- ---- Acceptance
 
@@ -200,20 +198,6 @@ accepted-not-too-soon-by table journal t input records T j k real = not-too-soon
 pub accepted-not-too-soon : NotTooSoon
 accepted-not-too-soon table journal t input records T j = not-too-soon t input records T (accepted j)
 
--- The calculator's weights are large enough.
-at-least : (b : Bool) (hold E : ℕ) → E ≤ (if b then hold + 2 * E else E)
-at-least true hold E = omega arith
-at-least false hold E = omega arith
-
-weights : (t : Table) (A : ℕ) → Known (t .inputs) A → Weights t (member A) (weight t A)
-unfolding weightOf
-weights t A known = record {
-  plain = λ q. at-least ((0 <? holdOf t q) and some (t .inputs) (λ a. member A a and delays t q a)) (holdOf t q) (t .bound);
-  delayed = λ q a is some-hold delayed.
-      let yes = some-if (t .inputs) (λ a. member A a and delays t q a) a (known a is) (rw (is, delayed)) in
-      rw (lt-ltb 0 (holdOf t q) some-hold, yes) (omega arith);
-}
-
 covers-bound : {t : Table} {P A target time : ℕ} → (time ≡ t .bound) ⊎ Slowest t P A target time → t .bound ≤ time
 covers-bound (inl e) = omega arith
 covers-bound (inr slowest) = omega (arith, slowest .is)
@@ -232,3 +216,10 @@ in-time t P A c target ok none r = one-move (record {
 pub accepted-not-too-late : NotTooLate
 accepted-not-too-late table journal t input records T j P A c target e =
     in-time t P A c target (j .holds .well-formed) (plain j P A c target e) (calculated j e) input records T (accepted j)
+
+pub accepted-not-too-late-by-moves : NotTooLateByMoves
+accepted-not-too-late-by-moves table journal t input records T j P A n sums path r e =
+    let read = holds-that-table table t (j .holds .well-formed) (j .holds .table-is) in
+    let answer = answered table P A n sums path r e in
+    let ok = rw (read .1) at (fits table P A n sums path (answer .0)) in
+    rw (answer .1, read .1) (moves-in-time ok input records T (accepted j))

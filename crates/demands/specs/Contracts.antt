@@ -19,6 +19,9 @@ use Rattle.runtime.proofs.run.Kinds as run-kinds
 use Rattle.runtime.proofs.run.Reads as run
 use Rattle.reaction.proofs.react.Kinds as react-kinds
 use Rattle.reaction.proofs.react.Reads as react
+use Rattle.moves.specs.Answer as moves-answer
+use Rattle.moves.proofs.react.Kinds as moves-kinds
+use Rattle.moves.proofs.react.Reads as moves
 use Rattle.convert.specs.Answer as convert-answer
 use Rattle.convert.proofs.convert.Kinds as convert-kinds
 use Rattle.convert.proofs.convert.Reads as convert
@@ -57,6 +60,8 @@ use Rattle.krossvil.proofs.krossvil_shorten.Kinds as c-shorten-kinds
 use Rattle.krossvil.proofs.krossvil_shorten.Reads as c-shorten
 use Rattle.krossvil.proofs.krossvil_lengthen.Kinds as c-lengthen-kinds
 use Rattle.krossvil.proofs.krossvil_lengthen.Reads as c-lengthen
+use Rattle.krossvil.proofs.krossvil_reaction_moves.Kinds as c-moves-kinds
+use Rattle.krossvil.proofs.krossvil_reaction_moves.Reads as c-moves
 use Rattle.krossvil.proofs.krossvil_salvage.Kinds as c-salvage-kinds
 use Rattle.krossvil.proofs.krossvil_salvage.Reads as c-salvage
 use Rattle.krossvil.proofs.krossvil_report_add.Kinds as c-report-kinds
@@ -98,6 +103,12 @@ runtimeRun = entry 3 run-kinds.ps run-kinds.r run.Pre run.Post (λ κs a. now (a
 abbrev pub reactionReact : Contract
 reactionReact = entry 1 react-kinds.ps react-kinds.r react.Pre react.Post (λ κs a. []) (λ κs s. [])
 
+-- What is lent are the numbers of the sums and the bytes of the path.
+abbrev pub movesReact : Contract
+movesReact =
+    entry 3 moves-kinds.ps moves-kinds.r moves.Pre moves.Post
+    (λ κs a. now (a .1 .1 .1 .1 .0) ∷ now (a .1 .1 .1 .1 .1 .0) ∷ []) (λ κs s. now (s .1 .1 .1 .1 .0) ∷ now (s .1 .1 .1 .1 .1 .0) ∷ [])
+
 abbrev pub converter : Contract
 converter = entry 2 convert-kinds.ps convert-kinds.r convert.Pre convert.Post (λ κs a. now (a .1 .0) ∷ []) (λ κs s. now (s .1 .0) ∷ [])
 
@@ -137,6 +148,13 @@ abbrev pub reactionInC : Contract
 reactionInC =
     entry 2 c-reaction-kinds.ps c-reaction-kinds.r c-reaction.Pre c-reaction.Post
     (λ κs a. now (a .1 .1 .1 .0) ∷ []) (λ κs s. now (s .1 .1 .1 .0) ∷ [])
+
+-- What is lent are the sums' numbers, the path and the answer.
+abbrev pub movesInC : Contract
+movesInC =
+    entry 4 c-moves-kinds.ps c-moves-kinds.r c-moves.Pre c-moves.Post
+    (λ κs a. now (a .1 .1 .1 .1 .0) ∷ now (a .1 .1 .1 .1 .1 .0) ∷ now (a .1 .1 .1 .1 .1 .1 .0) ∷ [])
+    (λ κs s. now (s .1 .1 .1 .1 .0) ∷ now (s .1 .1 .1 .1 .1 .0) ∷ now (s .1 .1 .1 .1 .1 .1 .0) ∷ [])
 
 abbrev pub converterInC : Contract
 converterInC =
@@ -180,10 +198,10 @@ pub record Determines (C : Contract) : Type 0 where
 
 abbrev pub EveryEntryDetermines : Type 0
 EveryEntryDetermines =
-    Determines tableCheck × Determines journalCheck × Determines runtimeRun × Determines reactionReact × Determines converter
+    Determines tableCheck × Determines journalCheck × Determines runtimeRun × Determines reactionReact × Determines movesReact × Determines converter
     × Determines stampedReader × Determines shortCheck × Determines shortener × Determines lengthener × Determines salvager
     × Determines reportBegin × Determines reportAdd
-    × Determines tableInC × Determines journalInC × Determines runInC × Determines reactionInC × Determines converterInC
+    × Determines tableInC × Determines journalInC × Determines runInC × Determines reactionInC × Determines movesInC × Determines converterInC
     × Determines stampedInC × Determines shortInC × Determines shortenerInC × Determines lengthenerInC × Determines salvagerInC
     × Determines reportInC
 
@@ -195,11 +213,13 @@ RefusalKeeps C number = (κs : Lfts (C .lifetimes)) (a : C .Args κs) (r : C .Re
 
 abbrev pub EveryRefusalKeeps : Type 0
 EveryRefusalKeeps =
-    RefusalKeeps runtimeRun (λ κs r. numberIn (replyOf r)) × RefusalKeeps converter (λ κs r. numberIn (convert-answer.replyOf r))
+    RefusalKeeps runtimeRun (λ κs r. numberIn (replyOf r)) × RefusalKeeps movesReact (λ κs r. numberIn (moves-answer.replyOf r))
+    × RefusalKeeps converter (λ κs r. numberIn (convert-answer.replyOf r))
     × RefusalKeeps stampedReader (λ κs r. numberIn (stamped-answer.replyOf r))
     × RefusalKeeps shortener (λ κs r. numberIn (restate-answer.replyOf r)) × RefusalKeeps lengthener (λ κs r. numberIn (restate-answer.replyOf r))
     × RefusalKeeps salvager (λ κs r. numberIn (salvage-answer.replyOf r))
     × RefusalKeeps journalInC (λ κs r. r) × RefusalKeeps runInC (λ κs r. r) × RefusalKeeps reactionInC (λ κs r. r)
+    × RefusalKeeps movesInC (λ κs r. r)
     × RefusalKeeps converterInC (λ κs r. r) × RefusalKeeps stampedInC (λ κs r. r)
     × RefusalKeeps shortInC (λ κs r. r) × RefusalKeeps shortenerInC (λ κs r. r) × RefusalKeeps lengthenerInC (λ κs r. r) × RefusalKeeps salvagerInC (λ κs r. r)
     × RefusalKeeps reportInC (λ κs r. r)

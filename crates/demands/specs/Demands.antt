@@ -24,6 +24,9 @@ use Rattle.journal.specs.declared.Answer.the-variants.{Accepted}
 use Rattle.journal.specs.Check.{checkOf}
 use Rattle.reaction.specs.declared.Answer.the-variants.{Reacts}
 use Rattle.reaction.specs.Reaction.{reactOf}
+use Rattle.moves.specs.declared.Reaction.{Reaction}
+use Rattle.moves.specs.declared.Answer.the-variants as moves
+use Rattle.moves.specs.Moves.{movesOf}
 use Rattle.runs.specs.Automaton.{RunOf}
 use Rattle.runs.specs.Slots.{inputAt, stateAt, EnteredAt, regionEntry}
 use Rattle.laws.specs.Journals.{JournalOf}
@@ -108,12 +111,21 @@ NotTooSoonBy =
     ((j : ℕ) → f ≤ j → j < n → timerDelays t k q (inputAt t input records j) ≡ true) →
     stateAt t input records n ≡ q
 
--- The calculator accepts P and A, s + c < T, and each slot from s to s + c - 1 has its state in P and its input in A. Then slot s + c
--- has its state in the target.
-abbrev pub NotTooLate : Type 0
-NotTooLate =
-    (table journal : List ℕ) (t : Table) (input : ℕ) (records : List Record) (T : ℕ) → AcceptedJournal table journal t input records T →
-    (P A c target : ℕ) → reactOf table P A ≡ Reacts c target →
+-- s + c < T, and each slot from s to s + c - 1 has its state in P and its input in A. Then slot s + c has its state in the target.
+abbrev pub InTime : Table → (input : ℕ) → List Record → (T P A c target : ℕ) → Type 0
+InTime t input records T P A c target =
     (s : ℕ) → s + c < T →
     ((k : ℕ) → s ≤ k → k < s + c → (member P (stateAt t input records k) ≡ true) × (member A (inputAt t input records k) ≡ true)) →
     member target (stateAt t input records (s + c)) ≡ true
+
+-- So it is with every time and target that the calculator gives for P and A, for one move ..
+abbrev pub NotTooLate : Type 0
+NotTooLate =
+    (table journal : List ℕ) (t : Table) (input : ℕ) (records : List Record) (T : ℕ) → AcceptedJournal table journal t input records T →
+    (P A c target : ℕ) → reactOf table P A ≡ Reacts c target → InTime t input records T P A c target
+
+-- .. and for any number of moves, whatever room there is for sums and path.
+abbrev pub NotTooLateByMoves : Type 0
+NotTooLateByMoves =
+    (table journal : List ℕ) (t : Table) (input : ℕ) (records : List Record) (T : ℕ) → AcceptedJournal table journal t input records T →
+    (P A n sums path : ℕ) (r : Reaction) → movesOf table P A n sums path ≡ moves.Reacts r → InTime t input records T P A (r .time) (r .target)

@@ -10,3 +10,4 @@ pub mod Accepting
 pub mod Restates
 pub mod Salvages
 pub mod Reports
+pub mod Several

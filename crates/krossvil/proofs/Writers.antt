@@ -27,7 +27,7 @@ WriteOwed replyIn written buffer before code after later =
 
 -- ---- A buffer after a reply
 
-no-change : (reply : Reply) (buffer written : List ℕ) → written ≡ buffer → buffer ≡ bufferAfter reply written buffer
+pub no-change : (reply : Reply) (buffer written : List ℕ) → written ≡ buffer → buffer ≡ bufferAfter reply written buffer
 unfolding bufferAfter
 no-change reply buffer written e = rw e (go (numberIn reply =? 0))
   where
@@ -35,18 +35,18 @@ no-change reply buffer written e = rw e (go (numberIn reply =? 0))
     go true = refl
     go false = refl
 
-on-success : (values buffer written : List ℕ) → written ≡ bufferAfter (gives values) written buffer
+pub on-success : (values buffer written : List ℕ) → written ≡ bufferAfter (gives values) written buffer
 unfolding bufferAfter
 on-success values buffer written = refl
 
-on-30 : (buffer written : List ℕ) → buffer ≡ bufferAfter (refuses 30 0) written buffer
+pub on-30 : (buffer written : List ℕ) → buffer ≡ bufferAfter (refuses 30 0) written buffer
 unfolding bufferAfter
 on-30 buffer written = refl
 
 -- ---- What is told of a success that may lack room
 
 -- Without room for the numbers it is 30, whether the bytes have room or not.
-told-short : (values : List ℕ) (room : ℕ) → room < 4 * length values → (full : Bool) → told (if full then refuses 30 0 else gives values) room ≡ refuses 30 0
+pub told-short : (values : List ℕ) (room : ℕ) → room < 4 * length values → (full : Bool) → told (if full then refuses 30 0 else gives values) room ≡ refuses 30 0
 unfolding told
 told-short values room h true = rw (le-ltb room 0 (omega arith)) refl
 told-short values room h false = rw (lt-ltb room (4 * length values) h) refl

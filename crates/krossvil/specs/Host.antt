@@ -31,6 +31,8 @@ use Rattle.report.specs.Report.{mostJournals}
 use Rattle.report.specs.Rows.{placesOf, rowOf}
 use Rattle.reaction.specs.Answer as reaction
 use Rattle.reaction.specs.Reaction.{reactOf}
+use Rattle.moves.specs.Answer as moves
+use Rattle.moves.specs.Moves.{movesOf, sumsAfter, pathAfter}
 
 -- What the host is told of a reply with an answer buffer of so many bytes: 30 at 0 if it is too short for the numbers, four bytes each.
 -- That comes last, and a refusal has no numbers.
@@ -73,6 +75,16 @@ runJournal table stimulus buffer room = bufferAfter (runTold table stimulus buff
 
 abbrev pub reactionTold : List ℕ → ℕ → ℕ → ℕ → Reply
 reactionTold table P A room = told (reaction.replyOf (reactOf table P A)) room
+
+-- With slices for the sums and for the path.
+abbrev pub movesTold : List ℕ → (P A n sums path room : ℕ) → Reply
+movesTold table P A n sums path room = told (moves.replyOf (movesOf table P A n sums path)) room
+
+abbrev pub movesSums : List ℕ → (P A n : ℕ) → (sums : List ℕ) → (path room : ℕ) → List ℕ
+movesSums table P A n sums path room = bufferAfter (movesTold table P A n (length sums) path room) (sumsAfter table P A n sums path) sums
+
+abbrev pub movesPath : List ℕ → (P A n sums : ℕ) → (path : List ℕ) → (room : ℕ) → List ℕ
+movesPath table P A n sums path room = bufferAfter (movesTold table P A n sums (length path) room) (pathAfter table P A n sums path) path
 
 abbrev pub convertTold : List ℕ → List ℕ → ℕ → Reply
 convertTold table buffer room = told (convert.replyOf (answerIn BufferTooShort (convert′.madeOf table) (length buffer))) room

@@ -16,3 +16,9 @@ pub mod Fronts
 pub mod Cuts
 pub mod Salvages
 pub mod Reports
+pub mod Rounds
+pub mod Paths
+pub mod Targets
+pub mod Moves
+pub mod OneMove
+pub mod InTime

@@ -7,3 +7,5 @@ pub mod Stamps
 pub mod Shorts
 pub mod Salvages
 pub mod Reports
+pub mod Paths
+pub mod Moves

@@ -1,6 +1,7 @@
 -- On a table that passed its check the walks can be made, and what they find gives the answer.
 use mathlib.Core.Path.{_≡_, refl, sym, ap, _∙_}
 use mathlib.Core.Bool.{Bool, true, false}
+use mathlib.Core.List.{[], _∷_}
 use mathlib.Core.Logic.{_⊎_, inl, inr}
 use Prim.Native.Nat.{ℕ, _+_, _*_, _<_, _≤_}
 use native.Mathlib.Nat.{eq-or-lt-of-le}
@@ -8,6 +9,8 @@ use native.Mathlib.Omega.{arith}
 use borrow.Author.Tests.{not-true, leb-true, leb-false}
 use lib.Arith.{digits-lt}
 use lib.Dec.{leb}
+use denote.Enum.Declared.{tagOf}
+use types.Run.{OneOf, miss}
 use Rattle.wire.specs.Choice.{_<?_, _and_, if_then_else_}
 use Rattle.wire.proofs.Choice.{never, both, and-both}
 use Rattle.sets.specs.Sets.{member, meets, Difference}
@@ -15,10 +18,13 @@ use Rattle.sets.proofs.Members.{some-below}
 use Rattle.table.specs.declared.Table.{Table}
 use Rattle.table.specs.Table.{largestBound, longestHold, nextOf, holdOf, delayedOf, delays}
 use Rattle.reaction.specs.declared.Answer.the-variants.{Reacts, LeavesStates}
-use Rattle.reaction.specs.Reaction.{weightOf, weight, reactionOf}
+use Rattle.reaction.specs.declared.Gathered.{Gathered}
+use Rattle.reaction.specs.declared.Gathered.the-variants.{Inside, Leaves}
+use Rattle.reaction.specs.Reaction.{weightOf, weight, firstLeaving, reactionOf}
 use Rattle.reaction.specs.Meaning.{Pairs, NextStates, Slowest, Reaction, Leaving}
-use Rattle.reaction.specs.Walks.{inRows, Walkable, FirstLeaving, weightIn, Reaches, IsLargest}
-use Rattle.reaction.proofs.Meaning.{AllExist, only-answer}
+use Rattle.reaction.specs.Walks.{inRows, Walkable, FirstLeaving, Finds, PairBelow, placeOf, weightIn, Reaches, IsLargest}
+use Rattle.reaction.proofs.Gathered as GatheredT
+use Rattle.reaction.proofs.Meaning.{AllExist, search-ends, only-answer}
 
 -- A smaller number p × I + a stands before, by state and then by input.
 before : (I p a state input : ℕ) → input < I → p * I + a < state * I + input → (p < state) ⊎ ((p ≡ state) × (a < input))
@@ -32,11 +38,19 @@ before I p a state input l h = go (leb state p) refl
     go true e = from (eq-or-lt-of-le (leb-true state p e))
     go false e = inl (leb-false state p e)
 
-weight-at-most : (hold E : ℕ) (delayed : Bool) → weightOf hold E delayed ≤ hold + 2 * E
+pub weight-at-most : (hold E : ℕ) (delayed : Bool) → weightOf hold E delayed ≤ hold + 2 * E
 unfolding weightOf
 weight-at-most hold E delayed = go ((0 <? hold) and delayed)
   where
     go : (b : Bool) → (if b then hold + 2 * E else E) ≤ hold + 2 * E
+    go true = omega arith
+    go false = omega arith
+
+pub weight-at-least : (hold E : ℕ) (delayed : Bool) → E ≤ weightOf hold E delayed
+unfolding weightOf
+weight-at-least hold E delayed = go ((0 <? hold) and delayed)
+  where
+    go : (b : Bool) → E ≤ (if b then hold + 2 * E else E)
     go true = omega arith
     go false = omega arith
 
@@ -50,7 +64,7 @@ module _ {t : Table} {P A : ℕ} (all : AllExist t P A) where
   }
 
   module _ {state input : ℕ} (found : FirstLeaving (nextOf t) P (Pairs P A) state input) where
-    pub pair-below : (state < 32) × (input < 32)
+    pair-below : (state < 32) × (input < 32)
     pair-below = omega (arith, all .states state (found .pair .0), all .inputs input (found .pair .1), all .table)
 
     means-leaving : Leaving t P A (state * t .inputs + input)
@@ -74,12 +88,27 @@ module _ {t : Table} {P A : ℕ} (all : AllExist t P A) where
                 let l = leb-false (state * t .inputs + input) (p * t .inputs + a) e in
                 never (sym out ∙ found .first p a h (before (t .inputs) p a state input (all .inputs input (found .pair .1)) l))
 
-    pub leaves-is : (place : ℕ) → place ≡ state * t .inputs + input → LeavesStates place ≡ reactionOf t P A
-    leaves-is place e = rw e (only-answer t (all .table) P A (LeavesStates (state * t .inputs + input)) means-leaving)
+  -- What a `let .. else` on `Inside` finds in its else.
+  pub below : (g : Gathered) → Finds (nextOf t) P (Pairs P A) g → PairBelow g
+  below (Inside target) f = tt
+  below (Leaves state input) f = pair-below f
+
+  pub leaving : (g : Gathered) → OneOf (1 ∷ []) (tagOf GatheredT.the-type g) → Finds (nextOf t) P (Pairs P A) g → Leaving t P A (placeOf (t .inputs) g)
+  leaving (Inside target) h f = absurd (miss (1 ∷ []) 0 tt h)
+  leaving (Leaves state input) h f = means-leaving f
+
+  pub none-leaves : (g : Gathered) → OneOf (0 ∷ []) (tagOf GatheredT.the-type g) → Finds (nextOf t) P (Pairs P A) g →
+      (firstLeaving t P A <? t .states * t .inputs) ≡ false
+  none-leaves (Inside target) h f = search-ends all f
+  none-leaves (Leaves state input) h f = absurd (miss (0 ∷ []) 1 tt h)
+
+  pub leaves-is : (g : Gathered) → OneOf (1 ∷ []) (tagOf GatheredT.the-type g) → Finds (nextOf t) P (Pairs P A) g →
+      (place : ℕ) → place ≡ placeOf (t .inputs) g → LeavesStates place ≡ reactionOf t P A
+  leaves-is g h f place e = rw e (only-answer t (all .table) P A (LeavesStates (placeOf (t .inputs) g)) (leaving g h f))
 
   -- ---- Weights
 
-  same-weight : (p : ℕ) → weightIn (t .hold) (t .delayed) (t .bound) A p ≡ weight t A p
+  pub same-weight : (p : ℕ) → weightIn (t .hold) (t .delayed) (t .bound) A p ≡ weight t A p
   same-weight p =
       ap (weightOf (holdOf t p) (t .bound))
       (some-below (t .inputs) 32 (λ a. member A a and delays t p a) (all .table .inputs .1) (λ a h. all .inputs a (both (member A a) _ h .0)))

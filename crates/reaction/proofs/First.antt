@@ -1,8 +1,12 @@
 -- A search from the front, for any test.
-use mathlib.Core.Path.{_≡_, refl}
+use mathlib.Core.Path.{_≡_, refl, sym, _∙_}
 use mathlib.Core.Bool.{Bool, true, false}
 use Prim.Native.Nat.{ℕ, zero, suc, _+_, _<_}
+use native.Mathlib.Nat.{zero-add, le-antisymm}
 use native.Mathlib.Omega.{arith}
+use borrow.Author.Tests.{leb-true, leb-false}
+use lib.Dec.{leb}
+use Rattle.wire.proofs.Choice.{never}
 use Rattle.wire.specs.Choice.{if_then_else_}
 use Rattle.reaction.specs.Reaction.{firstFrom}
 
@@ -32,3 +36,16 @@ found-first test (suc n) i h = go (test i) refl h (found-first test n (i + 1))
         (firstFrom test n (i + 1) < (i + 1) + n → test (firstFrom test n (i + 1)) ≡ true) → test (if b then i else firstFrom test n (i + 1)) ≡ true
     go true e l r = e
     go false e l r = r (omega arith)
+
+-- What passes the test, and nothing before it does, is what the search finds.
+pub first-is : (test : ℕ → Bool) (n k : ℕ) → k < n → test k ≡ true → ((j : ℕ) → j < k → test j ≡ false) → k ≡ firstFrom test n 0
+first-is test n k low passes none = go (leb (firstFrom test n 0) k) refl (leb k (firstFrom test n 0)) refl
+  where
+    go : (b : Bool) → leb (firstFrom test n 0) k ≡ b → (c : Bool) → leb k (firstFrom test n 0) ≡ c → k ≡ firstFrom test n 0
+    go true e true f = le-antisymm (leb-true k _ f) (leb-true _ k e)
+    go true e false f =
+        let l : firstFrom test n 0 < k = leb-false k _ f in
+        never (sym (none (firstFrom test n 0) l) ∙ found-first test n 0 (omega arith))
+    go false e c f =
+        let l : k < firstFrom test n 0 = leb-false _ k e in
+        never (sym (rw zero-add at (before-first test n 0 k (omega arith))) ∙ passes)

@@ -61,7 +61,7 @@ module _ {t : Table} {P A : ℕ} (all : AllExist t P A) where
   unfolding firstLeaving
   first-leaves h = found-first (leavesAt t P A) (t .states * t .inputs) 0 (omega arith)
 
-  found : (firstLeaving t P A <? t .states * t .inputs) ≡ true → Leaving t P A (firstLeaving t P A)
+  pub found : (firstLeaving t P A <? t .states * t .inputs) ≡ true → Leaving t P A (firstLeaving t P A)
   found e =
       let k = firstLeaving t P A in
       let in-P = both (member P (k / t .inputs)) _ (first-leaves (ltb-true k (t .states * t .inputs) e)) in
@@ -86,7 +86,7 @@ module _ {t : Table} {P A : ℕ} (all : AllExist t P A) where
               let l = leb-false (firstLeaving t P A) (p * t .inputs + a) e in
               never (sym (none-before (p * t .inputs + a) l) ∙ leaves-at p a h out)
 
-  stays : (firstLeaving t P A <? t .states * t .inputs) ≡ false → (p a : ℕ) → Pairs P A p a → member P (nextOf t p a) ≡ true
+  pub stays : (firstLeaving t P A <? t .states * t .inputs) ≡ false → (p a : ℕ) → Pairs P A p a → member P (nextOf t p a) ≡ true
   stays none p a h = go (member P (nextOf t p a)) refl
     where
       go : (b : Bool) → member P (nextOf t p a) ≡ b → b ≡ true
@@ -103,7 +103,7 @@ module _ {t : Table} {P A : ℕ} (all : AllExist t P A) where
       go true e = refl
       go false e = sym out ∙ stays e p a h
 
-  search-ends : {target : ℕ} → NextStates (nextOf t) P (Pairs P A) target → (firstLeaving t P A <? t .states * t .inputs) ≡ false
+  pub search-ends : {target : ℕ} → NextStates (nextOf t) P (Pairs P A) target → (firstLeaving t P A <? t .states * t .inputs) ≡ false
   search-ends next = go (firstLeaving t P A <? t .states * t .inputs) refl
     where
       go : (b : Bool) → (firstLeaving t P A <? t .states * t .inputs) ≡ b → b ≡ false
@@ -112,7 +112,7 @@ module _ {t : Table} {P A : ℕ} (all : AllExist t P A) where
 
   -- ---- The target
 
-  target-has : (p a : ℕ) → Pairs P A p a → member (nextSet t P A) (nextOf t p a) ≡ true
+  pub target-has : (p a : ℕ) → Pairs P A p a → member (nextSet t P A) (nextOf t p a) ≡ true
   unfolding nextSet
   target-has p a h =
       let p-exists = all .states p (h .0) in
@@ -121,7 +121,7 @@ module _ {t : Table} {P A : ℕ} (all : AllExist t P A) where
       let from-p = some-if (t .states) _ p p-exists (and-both (member P p) _ (h .0) by-a) in
       set-of-has (t .states) _ (nextOf t p a) (all .table .next p a p-exists a-exists) from-p
 
-  target-only : (q : ℕ) → member (nextSet t P A) q ≡ true → Comes (nextOf t) (Pairs P A) q
+  pub target-only : (q : ℕ) → member (nextSet t P A) q ≡ true → Comes (nextOf t) (Pairs P A) q
   unfolding nextSet
   target-only q m =
       let from-p = passing (t .states) _ (set-of-only (t .states) _ q m .1) in
@@ -163,7 +163,7 @@ module _ {t : Table} {P A : ℕ} (all : AllExist t P A) where
 
 -- ---- Each meaning has one answer
 
-same-target : {next : ℕ → ℕ → ℕ} {P : ℕ} {Pair : ℕ → ℕ → Type 0} {x y : ℕ} → NextStates next P Pair x → NextStates next P Pair y → x ≡ y
+pub same-target : {next : ℕ → ℕ → ℕ} {P : ℕ} {Pair : ℕ → ℕ → Type 0} {x y : ℕ} → NextStates next P Pair x → NextStates next P Pair y → x ≡ y
 same-target {x = x} {y = y} X Y =
     same-members x y
     (λ q m. let c = X .only q m in rw (← c .is) (Y .has (c .state) (c .input) (c .pair)))
@@ -186,11 +186,18 @@ module _ {t : Table} {P A : ℕ} where
       let f : time ≡ time′ = le-antisymm (no-later Z Y) (no-later Y Z) in
       rw (e, f)
 
-  same-leaving : {place place′ : ℕ} → Leaving t P A place → Leaving t P A place′ → place ≡ place′
+  pub same-leaving : {place place′ : ℕ} → Leaving t P A place → Leaving t P A place′ → place ≡ place′
   same-leaving X Y =
       le-antisymm
       (rw (Y .is) (X .smallest (Y .state) (Y .input) (Y .pair) (Y .outside)))
       (rw (X .is) (Y .smallest (X .state) (X .input) (X .pair) (X .outside)))
+
+-- Where a pair leaves, the search finds its place.
+pub leaving-first : {t : Table} {P A place : ℕ} → AllExist t P A → Leaving t P A place →
+    ((firstLeaving t P A <? t .states * t .inputs) ≡ true) × (place ≡ firstLeaving t P A)
+leaving-first all l =
+    let e = search-finds all (l .state) (l .input) (l .pair) (l .outside) in
+    (e, same-leaving l (found all e))
 
 -- ---- The theorems
 

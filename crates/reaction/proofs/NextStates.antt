@@ -134,3 +134,9 @@ module _ {next : ℕ → ℕ → ℕ} {P A rest target : ℕ} (inv : OverStates 
           (λ p a h. (rw (h .0) (taken-walked (inv .walk) takes), h .1))
           (inv .so-far) x union;
     }
+
+-- From a set that no next state leaves nothing is passed up.
+pub never-leaves : (next : ℕ → ℕ → ℕ) (P A : ℕ) → ((p a : ℕ) → Pairs P A p a → member P (next p a) ≡ true) →
+    (g : Gathered) → OneOf (1 ∷ []) (tagOf GatheredT.the-type g) → Finds next P (Pairs P A) g → ⊥
+never-leaves next P A closed (Inside set) h f = miss (1 ∷ []) 0 tt h
+never-leaves next P A closed (Leaves s i) h f = never (sym (f .outside) ∙ closed s i (f .pair))

@@ -34,6 +34,15 @@ abbrev pub Finds : (ℕ → ℕ → ℕ) → ℕ → (ℕ → ℕ → Type 0) �
 Finds next P Pair (Inside target) = NextStates next P Pair target
 Finds next P Pair (Leaves state input) = FirstLeaving next P Pair state input
 
+-- The pair that leaves, if there is one, is of a state and an input below 32; its place in rows of this width.
+abbrev pub PairBelow : Gathered → Type 0
+PairBelow (Inside target) = Unit
+PairBelow (Leaves state input) = (state < 32) × (input < 32)
+
+abbrev pub placeOf : ℕ → Gathered → ℕ
+placeOf width (Inside target) = 0
+placeOf width (Leaves state input) = state * width + input
+
 -- The weight of p, from the arrays of holds and of delayed sets.
 abbrev pub weightIn : List ℕ → List ℕ → ℕ → ℕ → ℕ → ℕ
 weightIn holds delayed E A p = weightOf (getD holds p 0) E (meets A (getD delayed p 0))

@@ -11,7 +11,7 @@ ghost use Rattle.table.specs.Check.{tableAnswer, tableIn};
 ghost use Rattle.reaction.specs.Answer.{replyOf};
 ghost use Rattle.reaction.specs.Reaction.{weightOf, reactionOf, forHolds, reactOf};
 ghost use Rattle.reaction.specs.Meaning.{Pairs};
-ghost use Rattle.reaction.specs.Walks.{inRows, Walkable, From, Finds, weightIn, IsLargest};
+ghost use Rattle.reaction.specs.Walks.{inRows, Walkable, From, Finds, PairBelow, placeOf, weightIn, IsLargest};
 use sets::difference;
 use sets::has;
 use sets::meet;
@@ -63,9 +63,22 @@ impl Answer {
 }
 
 // What a walk over next states finds: the set of them, or the first pair whose next state is outside the states.
-enum Gathered {
+pub enum Gathered {
     Inside(u32),
     Leaves { state: u32, input: u32 },
+}
+
+impl Gathered {
+    // The place of the pair that leaves, in rows of this width.
+    pub fn place(self, width: u32) -> usize
+        requires { ⌜ (width ≤ 32) × PairBelow self ⌝ }
+        ensures { λ r. ⌜ r ≡ placeOf width self ⌝ }
+    {
+        match self {
+            Gathered::Inside(_) => 0,
+            Gathered::Leaves { state, input } => place_in_rows(width, state, input),
+        }
+    }
 }
 
 // The next states of one state under the inputs.
@@ -89,7 +102,7 @@ fn next_of_state(rows: &[u8; 1024], width: u32, states: u32, inputs: u32, state:
 }
 
 // The next states of all the states under the inputs.
-fn next_of_states(rows: &[u8; 1024], width: u32, states: u32, inputs: u32) -> Gathered
+pub fn next_of_states(rows: &[u8; 1024], width: u32, states: u32, inputs: u32) -> Gathered
     requires { ⌜ Walkable (inRows (now rows) width) width states inputs ⌝ }
     ensures { λ r. ⌜ Finds (inRows (now (rows .entry)) width) states (Pairs states inputs) r ⌝ }
 {
@@ -108,7 +121,7 @@ fn next_of_states(rows: &[u8; 1024], width: u32, states: u32, inputs: u32) -> Ga
 }
 
 // Whether some input is delayed in the state is known already.
-fn weight(hold: u32, bound: u32, delayed: bool) -> u32
+pub fn weight(hold: u32, bound: u32, delayed: bool) -> u32
     requires { ⌜ (hold ≤ longestHold) × (bound ≤ largestBound) ⌝ }
     ensures { λ r. ⌜ r ≡ weightOf hold bound delayed ⌝ }
 {
@@ -158,16 +171,12 @@ fn react_checked(table: &[u8], states: u32, inputs: u32) -> Answer
         return Answer::UnknownInput;
     }
     let gathered = next_of_states(&t.next, t.inputs, states, inputs);
-    match gathered {
-        Gathered::Leaves { state, input } => {
-            Answer::LeavesStates(place_in_rows(t.inputs, state, input))
-        }
-        Gathered::Inside(target) => {
-            let outside = difference(states, target);
-            let time = t.bound + largest_weight(&t.hold, &t.delayed, t.bound, outside, inputs);
-            Answer::Reacts { time, target }
-        }
-    }
+    let Gathered::Inside(target) = gathered else {
+        return Answer::LeavesStates(gathered.place(t.inputs));
+    };
+    let outside = difference(states, target);
+    let time = t.bound + largest_weight(&t.hold, &t.delayed, t.bound, outside, inputs);
+    Answer::Reacts { time, target }
 }
 
 // The entry, on any bytes. The table's refusals come first, then 14, 9 for states, 9 for inputs, then 10.

@@ -55,7 +55,7 @@ module _ {f : ℕ → ℕ} {n : ℕ} {before after : List ℕ} {k : ℕ} (inv : 
 
 -- ---- Arrays that were all zeros
 
-getD-zeros : (n k : ℕ) → getD (zeros n) k 0 ≡ 0
+pub getD-zeros : (n k : ℕ) → getD (zeros n) k 0 ≡ 0
 getD-zeros zero k = refl
 getD-zeros (suc n) zero = refl
 getD-zeros (suc n) (suc k) = getD-zeros n k

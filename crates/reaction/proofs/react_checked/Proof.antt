@@ -3,17 +3,16 @@ use mathlib.Core.Path.{_≡_, sym, _∙_}
 use native.Mathlib.Omega.{arith}
 use borrow.Author.Tests.{not-true, not-false}
 use borrow.Author.Needs.{needs}
-use Rattle.table.specs.Table.{nextOf, WellFormed}
+use Rattle.table.specs.Table.{WellFormed}
 use Rattle.table.specs.Check.{tableIn}
 use Rattle.table.proofs.WellFormed.{well-formed}
 use Rattle.reaction.specs.declared.Answer.{Answer}
 use Rattle.reaction.specs.declared.Answer.the-variants.{HasTimers, UnknownState, UnknownInput}
 use Rattle.reaction.specs.Reaction.{reactionOf, forHolds}
-use Rattle.reaction.specs.Meaning.{Known, Pairs}
-use Rattle.reaction.specs.Walks.{FirstLeaving}
+use Rattle.reaction.specs.Meaning.{Known}
 use Rattle.reaction.proofs.Entry.{has-holds, has-timers}
 use Rattle.reaction.proofs.Meaning.{AllExist, known, unknown, only-answer}
-use Rattle.reaction.proofs.Findings.{can-walk, pair-below, leaves-is, weights-fit, time-fits, reacts-is}
+use Rattle.reaction.proofs.Findings.{can-walk, below, leaves-is, weights-fit, time-fits, reacts-is}
 use Rattle.reaction.proofs.react_checked.Statement.{statement}
 use Rattle.reaction.proofs.react_checked.Tie as tie
 
@@ -62,17 +61,18 @@ all c = record {
 next-of-states-requires : tie.Need-next-of-states-requires
 next-of-states-requires c κs = can-walk (all (c .before .before))
 
-found : (c : tie.After-known-told) →
-    let read = c .before .before .before .before .before .before .before .before .before .before .before in
-    let start = read .before .before .args in
-    let pair = c .before .gathered .given .0 in
-    FirstLeaving (nextOf (read .read .result)) (start .states) (Pairs (start .states) (start .inputs)) (pair .0) (pair .1 .0)
-found c = rw (c .before .gathered .given .1) at (c .before .before .before .next-of-states .ensures)
+place-requires : tie.Need-place-requires
+place-requires c κs =
+    let known = all (c .before .before .before .before .before) in
+    let found = c .before .before .next-of-states in
+    (known .table .inputs .1, below known (found .result) (found .ensures))
 
-place-in-rows-requires : tie.Need-place-in-rows-requires
-place-in-rows-requires c κs =
-    let known = all (c .before .before .before .before .before .before) in
-    omega (arith, pair-below known (found c), known .table)
+returns-4 : tie.Need-returns-4
+returns-4 c =
+    let tested = c .before .before .before .before .before .before in
+    let found = c .before .before .before .next-of-states in
+    with-holds (tested .before .before .before .before) _
+    (leaves-is (all tested) (found .result) (c .before .before .match .keys2) (found .ensures) _ (c .place .ensures))
 
 largest-weight-requires : tie.Need-largest-weight-requires
 largest-weight-requires c κs =
@@ -84,16 +84,11 @@ add-time c =
     let known = all (c .before .before .before .before .before .before .before .before .before .before .before) in
     omega (arith, time-fits known _ _ (c .before .before .before .before .difference .ensures) (c .largest-weight .ensures))
 
-returns-4 : tie.Need-returns-4
-returns-4 c =
-    let tested = c .before .before .before .before .before .before .before in
-    with-holds (tested .before .before .before .before) _ (leaves-is (all tested) (found (c .before)) _ (c .place-in-rows .ensures .0))
-
 returns-5 : tie.Need-returns-5
 returns-5 c =
     let tested = c .before .before .before .before .before .before .before .before .before .before .before in
     let inside = c .before .before .before .before .before .before in
-    let next = rw (inside .gathered2 .given .1) at (inside .before .before .next-of-states .ensures) in
+    let next = rw (inside .gathered .given .1) at (inside .before .before .next-of-states .ensures) in
     with-holds (tested .before .before .before .before) _
     (reacts-is (all tested) _ _ (c .before .before .before .before .difference .ensures) (c .largest-weight .ensures) next)
 
@@ -101,5 +96,4 @@ pub react-checked-spec : {M : Type 1} → statement M
 react-checked-spec =
     tie.close
     (tie.spec (λ c κs. search needs) returns within-requires returns-2 within-requires-2 returns-3 next-of-states-requires
-    (λ c. search needs) place-in-rows-requires (λ c. search needs) (λ c κs. search needs)
-    largest-weight-requires add-time returns-4 returns-5)
+    (λ c. search needs) (λ c. search needs) place-requires returns-4 (λ c κs. search needs) largest-weight-requires add-time returns-5)

@@ -1,0 +1,81 @@
+-- The time for several moves suffices, once for every number of moves.
+use mathlib.Core.Path.{_≡_, refl}
+use mathlib.Core.Bool.{Bool, true, false}
+use Prim.Native.Nat.{ℕ, zero, suc, _+_, _-_, _≤_}
+use native.Mathlib.Omega.{arith}
+use borrow.Author.Tests.{lt-ltb}
+use lib.ListN.{getD}
+use Rattle.wire.specs.Choice.{_and_}
+use Rattle.sets.specs.Sets.{member, some}
+use Rattle.sets.proofs.Members.{some-if}
+use Rattle.table.specs.declared.Table.{Table}
+use Rattle.table.specs.Table.{holdOf, delays, nextOf}
+use Rattle.machine.proofs.Watches.{no-regions}
+use Rattle.reaction.specs.Reaction.{weightOf, weight}
+use Rattle.reaction.specs.Meaning.{Known, Pairs}
+use Rattle.reaction.proofs.Meaning.{AllExist, stays}
+use Rattle.reaction.proofs.Findings.{weight-at-least}
+use Rattle.moves.specs.Moves.{nextTimes, most, sumsOf, largestSum, reactionOver}
+use Rattle.runs.specs.Reaction.{Weights, Reach, there, via, Suffices}
+use Rattle.runs.specs.Slots.{NotTooLate}
+use Rattle.runs.proofs.Late.{not-too-late}
+use Rattle.laws.specs.Paths.{OnPath}
+use Rattle.laws.proofs.Rounds.{on-path, ahead-most}
+use Rattle.laws.proofs.Paths.{at-most}
+use Rattle.laws.proofs.Targets.{moves-on, shrinks, within}
+use Rattle.moves.proofs.Fitting.{Fits}
+
+-- The calculator's weights are large enough.
+pub weights : (t : Table) (A : ℕ) → Known (t .inputs) A → Weights t (member A) (weight t A)
+unfolding weightOf
+weights t A known = record {
+  plain = λ q. weight-at-least (holdOf t q) (t .bound) (some (t .inputs) (λ a. member A a and delays t q a));
+  delayed = λ q a is some-hold delayed.
+      let yes = some-if (t .inputs) (λ a. member A a and delays t q a) a (known a is) (rw (is, delayed)) in
+      rw (lt-ltb 0 (holdOf t q) some-hold, yes) (omega arith);
+}
+
+weaken : {t : Table} {A N : ℕ → Bool} {w : ℕ → ℕ} {r q : ℕ} → Reach t A N w r q → (more : ℕ) → r ≤ more → Reach t A N w more q
+weaken (there n) more l = there n
+weaken (via r q rest paid reach) more l = via more q rest (omega arith) reach
+
+module _ {t : Table} {P A : ℕ} (all : AllExist t P A) (inside : (p a : ℕ) → Pairs P A p a → member P (nextOf t p a) ≡ true) (n : ℕ) where
+  abbrev N : ℕ
+  N = nextTimes t P A n
+
+  -- What is left to pay from a state of the target of j moves, with k moves left: the largest sum of a path of at most k states from there.
+  abbrev Reaches : (k q : ℕ) → Type 0
+  Reaches k q = Reach t (member A) (member N) (weight t A) (getD (sumsOf t P A N k) q 0) q
+
+  reaches : (k j q : ℕ) → k + j ≡ n → member (nextTimes t P A j) q ≡ true → Reaches k q
+  reaches zero j q e m = let f : j ≡ n = omega arith in there (rw f at m)
+  reaches (suc k) j q e m = go (member N q) refl (λ a h. reaches k (suc j) (nextOf t q a) (omega arith) (moves-on all j q a m h))
+    where
+      go : (b : Bool) → member N q ≡ b → ((a : ℕ) → member A a ≡ true → Reaches k (nextOf t q a)) → Reaches (suc k) q
+      go true o r = there o
+      go false o r =
+          let on : OnPath P N q = record { is-in = within all inside j q m; outside = o } in
+          let paid = on-path all N k q on in
+          via (getD (sumsOf t P A N (suc k)) q 0) q (most t P A N (sumsOf t P A N k) q) (omega arith) (λ a h. weaken (r a h) _ (ahead-most all N k q a h))
+
+  module _ (none : t .timers ≡ 0) where
+    suffices : Suffices t (member P) (member A) (member N) (weight t A) (t .bound + largestSum t P A N n)
+    unfolding nextTimes
+    suffices = record {
+      no-regions = no-regions (all .table) none;
+      bound-positive = all .table .bound .0;
+      weights = weights t A (all .inputs);
+      stays = λ q a m h. shrinks all inside n (nextOf t q a) (moves-on all n q a m h);
+      reaches = λ p m. from p m (member N p) refl;
+      covers-bound = omega arith;
+    }
+      where
+        from : (p : ℕ) → member P p ≡ true → (b : Bool) → member N p ≡ b →
+            Reach t (member A) (member N) (weight t A) (t .bound + largestSum t P A N n + 1 - t .bound) p
+        from p m true o = there o
+        from p m false o = weaken (reaches n 0 p (omega arith) m) _ (omega (arith, at-most all N n p (record { is-in = m; outside = o })))
+
+pub moves-in-time : {t : Table} {P A n sums path : ℕ} → Fits t P A n sums path →
+    NotTooLate t (member P) (member A) (member (reactionOver t P A n .target)) (reactionOver t P A n .time)
+unfolding reactionOver
+moves-in-time {n = n} ok = not-too-late (suffices (ok .all) (stays (ok .all) (ok .search)) n (ok .no-timers))

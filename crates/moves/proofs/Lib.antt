@@ -1,0 +1,13 @@
+pub mod Worsts
+pub mod Targets
+pub mod Weighing
+pub mod InOrder
+pub mod Rows
+pub mod Along
+pub mod Smallest
+pub mod Fitting
+pub mod AllRows
+pub mod Kept
+pub mod Whole
+pub mod Judges
+pub mod Short

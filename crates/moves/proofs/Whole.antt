@@ -1,0 +1,280 @@
+-- What the inner functions find, over arrays and slices, is what the definitions say of a table.
+use mathlib.Core.Path.{_≡_, refl, sym, ap, _∙_}
+use mathlib.Core.Bool.{Bool, true, false}
+use mathlib.Core.List.{List, [], _∷_, _++_, append-assoc, append-nil}
+use mathlib.Core.Logic.{_⊎_, inl, inr}
+use Prim.Native.Nat.{ℕ, zero, suc, _+_, _-_, _*_, _<_, _≤_}
+use native.Mathlib.Nat.{mul-le-mul-right, zero-mul, suc-mul, add-zero, zero-add, add-suc}
+use native.Mathlib.Numerals.{add-one}
+use native.Mathlib.Omega.{arith}
+use borrow.Author.Tests.{ne-eqb, eqb-true, eqb-false}
+use lib.Arith.{digits-div, digits-mod, digits-lt, le-zero}
+use lib.ListN.{length, getD, drop, List·getD-append}
+use Rattle.wire.specs.Choice.{_=?_, _and_, if_then_else_}
+use Rattle.wire.specs.Encode.{placedIn}
+use Rattle.wire.proofs.Choice.{both}
+use Rattle.sets.specs.Sets.{member, some, largest, Difference}
+use Rattle.table.specs.declared.Table.{Table}
+use Rattle.table.specs.Table.{nextOf, holdOf, delays}
+use Rattle.table.specs.Entries.{values}
+use Rattle.table.proofs.Values.{getD-values, getD-zeros}
+use Rattle.reaction.specs.Reaction.{firstFrom, weight, nextSet}
+use Rattle.reaction.specs.Walks.{weightIn}
+use Rattle.reaction.proofs.Meaning.{AllExist, target-has, target-only, same-target}
+use Rattle.reaction.proofs.Findings.{same-weight, weight-at-most, weight-at-least}
+use Rattle.moves.specs.declared.rounds.Way.{Way}
+use Rattle.moves.specs.Moves.{nextTimes, worst, onPath, round, sumsOf, rows, pathFrom, largestSum, worstStart, worstPath, reactionOver, sumsOver, pathOver}
+use Rattle.moves.specs.Walks.{Times, Steps, Weighs, Worst, aheadIn, roundIn, rowIn, sumIn, pathIn, wholePath, heaviest}
+use Rattle.moves.proofs.Rows.{same-largest, largest-at-most, row-at-most}
+use Rattle.moves.proofs.Worsts.{is-largest, is-worst, worst-in}
+use Rattle.moves.proofs.Smallest.{worst-found}
+use Rattle.moves.proofs.AllRows.{length-rows, row-at}
+
+-- ---- The target
+
+module _ {t : Table} {P A : ℕ} (all : AllExist t P A) where
+  times-inside : (n N : ℕ) → Times (nextOf t) P A n N → (q : ℕ) → member N q ≡ true → member P q ≡ true
+  times-inside zero N e q m = rw e at m
+  times-inside (suc n) N (M, before, states) q m =
+      let c = states .only q m in
+      times-inside n M before q (rw (c .is) at (states .inside (c .state) (c .input) (c .pair)))
+
+  pub times-are : (n N : ℕ) → Times (nextOf t) P A n N → N ≡ nextTimes t P A n
+  unfolding nextTimes
+  times-are zero N e = e
+  times-are (suc n) N (M, before, states) =
+      let known : AllExist t M A = record {
+        table = all .table;
+        states = λ q m. all .states q (times-inside n M before q m);
+        inputs = all .inputs;
+      } in
+      same-target states (record { inside = states .inside; has = target-has known; only = target-only known })
+      ∙ ap (λ S. nextSet t S A) (times-are n M before)
+
+-- ---- Lists and numbers that agree place by place
+
+same-values : {f g : ℕ → ℕ} (n : ℕ) → ((k : ℕ) → k < n → f k ≡ g k) → values f n ≡ values g n
+unfolding values
+same-values zero each = refl
+same-values (suc n) each = rw (same-values n (λ k h. each k (omega arith)), each n (omega arith))
+
+no-values : (f : ℕ → ℕ) {n : ℕ} → n ≡ 0 → values f n ≡ []
+unfolding values
+no-values f e = rw e
+
+more-values : (f : ℕ → ℕ) (m n : ℕ) → values f (m + n) ≡ values f m ++ values (λ k. f (m + k)) n
+unfolding values
+more-values f m zero = rw (add-zero m) (sym (append-nil (values f m)))
+more-values f m (suc n) = rw (add-suc m n, more-values f m n) (append-assoc (values f m) (values (λ k. f (m + k)) n) (f (m + n) ∷ []))
+
+same-first : {test other : ℕ → Bool} → ((i : ℕ) → test i ≡ other i) → (n i : ℕ) → firstFrom test n i ≡ firstFrom other n i
+unfolding firstFrom
+same-first each zero i = refl
+same-first each (suc n) i = rw (each i, same-first each n (i + 1))
+
+same-tests : {test other : ℕ → Bool} → ((i : ℕ) → test i ≡ other i) → (n : ℕ) (f : ℕ → ℕ) → largest n test f ≡ largest n other f
+unfolding largest
+same-tests each zero f = refl
+same-tests each (suc n) f = rw (each n, same-tests each n f)
+
+same-worst : {test other : ℕ → Bool} {f g : ℕ → ℕ} → ((i : ℕ) → test i ≡ other i) → ((i : ℕ) → other i ≡ true → f i ≡ g i) → (n : ℕ) →
+    (largest n test f ≡ largest n other g) × (worst n test f ≡ worst n other g)
+unfolding worst
+same-worst {test} {other} {f} {g} tests each n = (most, same-first (λ i. rw (tests i) (go i (other i) refl)) n 0)
+  where
+    most : largest n test f ≡ largest n other g
+    most = same-tests tests n f ∙ same-largest n other f g each
+
+    go : (i : ℕ) → (b : Bool) → other i ≡ b → (b and (f i =? largest n test f)) ≡ (b and (g i =? largest n other g))
+    go i false e = refl
+    go i true e = rw (each i e, most)
+
+-- ---- The rows
+
+-- The table's rows can be walked.
+pub steps : {t : Table} {P A : ℕ} → AllExist t P A → Steps (nextOf t) (record { width = t .inputs; inputs = A; states = t .states })
+steps all = record {
+  few = all .table .inputs .1;
+  states = all .table .states;
+  inputs = all .inputs;
+  below = λ q a low m. all .table .next q a low (all .inputs a m);
+}
+
+module _ {t : Table} {P A : ℕ} (all : AllExist t P A) (N outside : ℕ) (rest : Difference P N outside) (weights : List ℕ)
+    (weighs : Weighs outside (weightIn (t .hold) (t .delayed) (t .bound) A) weights) where
+  abbrev way : Way
+  way = record { width = t .inputs; inputs = A; states = t .states }
+
+  abbrev weigh : ℕ → ℕ
+  weigh q = getD weights q 0
+
+  weighed : (q : ℕ) → weigh q ≡ (if onPath t P A N q then weight t A q else 0)
+  weighed q = weighs q ∙ rw (rest q) (ap (λ w. if onPath t P A N q then w else 0) (same-weight all q))
+
+  abbrev delayed : ℕ → Bool
+  delayed q = some (t .inputs) (λ a. member A a and delays t q a)
+
+  some-weight : (q : ℕ) → 1 ≤ weight t A q
+  some-weight q = omega (arith, all .table .bound, weight-at-least (holdOf t q) (t .bound) (delayed q))
+
+  pub light : (q : ℕ) → weigh q ≤ heaviest
+  light q = rw (weighed q) (go (onPath t P A N q) refl)
+    where
+      go : (b : Bool) → onPath t P A N q ≡ b → (if b then weight t A q else 0) ≤ heaviest
+      go true e =
+          let hold = all .table .hold q (all .states q (both (member P q) _ e .0)) in
+          omega (arith, weight-at-most (holdOf t q) (t .bound) (delayed q), hold, all .table .bound)
+      go false e = omega arith
+
+  rounds-agree : (row : List ℕ) → roundIn (nextOf t) way weigh row ≡ round t P A N row
+  unfolding roundIn round
+  rounds-agree row = same-values (t .states) (λ q h. rw (weighed q) (go (onPath t P A N q) (weight t A q) _ (some-weight q)))
+    where
+      go : (b : Bool) (w m : ℕ) → 1 ≤ w → (if (if b then w else 0) =? 0 then 0 else (if b then w else 0) + m) ≡ (if b then w + m else 0)
+      go true w m l = rw (ne-eqb w 0 (λ z. omega arith))
+      go false w m l = refl
+
+  pub rows-agree : (k : ℕ) → rowIn (nextOf t) way weigh k ≡ sumsOf t P A N k
+  unfolding rowIn sumsOf
+  rows-agree zero = refl
+  rows-agree (suc k) = rounds-agree (rowIn (nextOf t) way weigh k) ∙ ap (round t P A N) (rows-agree k)
+
+  place-agrees : (r q : ℕ) → q < t .states → sumIn (nextOf t) way weigh (r * t .states + q) ≡ getD (sumsOf t P A N (suc r)) q 0
+  place-agrees r q low = rw (digits-div r low, digits-mod r low, add-one r, rows-agree (suc r))
+
+  -- A row is the list of its numbers.
+  row-listed : (n : ℕ) → sumsOf t P A N (suc n) ≡ values (λ q. getD (sumsOf t P A N (suc n)) q 0) (t .states)
+  unfolding sumsOf round
+  row-listed n =
+      same-values (t .states)
+      (λ q low. sym (getD-values (λ q. if onPath t P A N q then weight t A q + largest (t .inputs) (member A) (λ a. getD (sumsOf t P A N n) (nextOf t q a) 0) else 0) (t .states) q low))
+
+  pub all-rows : (n : ℕ) → values (sumIn (nextOf t) way weigh) (n * t .states) ≡ rows t P A N n
+  unfolding rows
+  all-rows zero = no-values (sumIn (nextOf t) way weigh) (zero-mul (t .states))
+  all-rows (suc n) =
+      let row : values (λ q. sumIn (nextOf t) way weigh (n * t .states + q)) (t .states) ≡ sumsOf t P A N (suc n) =
+      same-values (t .states) (place-agrees n) ∙ sym (row-listed n)
+      in
+      ap (values (sumIn (nextOf t) way weigh)) (suc-mul n (t .states))
+      ∙ more-values (sumIn (nextOf t) way weigh) (n * t .states) (t .states)
+      ∙ rw (all-rows n, row)
+
+  sums-light : (k q : ℕ) → q < t .states → getD (sumsOf t P A N k) q 0 ≤ k * heaviest
+  sums-light k q low = rw (← rows-agree k) (row-at-most (steps all) weigh light k q low)
+
+  pub largest-light : (n : ℕ) → n ≤ 32 → largestSum t P A N n ≤ 32 * heaviest
+  unfolding largestSum
+  largest-light n few =
+      let m : n * heaviest ≤ 32 * heaviest = mul-le-mul-right heaviest few in
+      let l = largest-at-most (t .states) (onPath t P A N) (λ q. getD (sumsOf t P A N n) q 0) (n * heaviest)
+      (λ q on. sums-light n q (all .states q (both (member P q) _ on .0))) in
+      omega arith
+
+-- ---- The path
+
+module _ {t : Table} {P A : ℕ} (all : AllExist t P A) (N n : ℕ) (after : List ℕ) where
+  abbrev way′ : Way
+  way′ = record { width = t .inputs; inputs = A; states = t .states }
+
+  -- The slice has the rows in front.
+  module _ (behind : List ℕ) (holds : after ≡ rows t P A N n ++ behind) where
+    place-has : (r q : ℕ) → r < n → q < t .states → getD after (r * t .states + q) 0 ≡ getD (sumsOf t P A N (r + 1)) q 0
+    place-has r q row low =
+        ap (λ l. getD l (r * t .states + q) 0) holds
+        ∙ List·getD-append (rows t P A N n) behind 0 (r * t .states + q) (rw (length-rows t P A N n) (digits-lt row low))
+        ∙ row-at t P A N n r q row low
+
+    pub path-agrees : (left q : ℕ) → left < n → q < t .states → pathIn (nextOf t) way′ after left q ≡ pathFrom t P A N left q
+    unfolding pathIn pathFrom
+    path-agrees zero q few low = refl
+    path-agrees (suc k) q few low =
+        rw (agree .0, agree .1) (go (largest (t .inputs) (member A) ahead =? 0) refl (path-agrees k))
+      where
+        ahead : ℕ → ℕ
+        ahead a = getD (sumsOf t P A N (suc k)) (nextOf t q a) 0
+
+        agree : (largest (t .inputs) (member A) (aheadIn (nextOf t) way′ after (k * t .states) q) ≡ largest (t .inputs) (member A) ahead) ×
+            (worst (t .inputs) (member A) (aheadIn (nextOf t) way′ after (k * t .states) q) ≡ worst (t .inputs) (member A) ahead)
+        agree =
+            same-worst (λ i. refl)
+            (λ a m. rw (← add-one k) (place-has k (nextOf t q a) (omega arith) (all .table .next q a low (all .inputs a m)))) (t .inputs)
+
+        input : ℕ
+        input = worst (t .inputs) (member A) ahead
+
+        go : (b : Bool) → (largest (t .inputs) (member A) ahead =? 0) ≡ b →
+            ((p : ℕ) → k < n → p < t .states → pathIn (nextOf t) way′ after k p ≡ pathFrom t P A N k p) →
+            (if b then q ∷ [] else q ∷ input ∷ pathIn (nextOf t) way′ after k (nextOf t q input)) ≡
+            (if b then q ∷ [] else q ∷ input ∷ pathFrom t P A N k (nextOf t q input))
+        go true e more = refl
+        go false e more =
+            let other = eqb-false (largest (t .inputs) (member A) ahead) 0 e in
+            let found = worst-found (t .inputs) (member A) ahead (omega arith) in
+            ap (λ rest. q ∷ input ∷ rest) (more (nextOf t q input) (omega arith) (all .table .next q input low (found .below)))
+
+    -- The worst start, which was looked for in the last row.
+    module _ (outside : ℕ) (rest : Difference P N outside) (some : 0 < n) {sum at : ℕ}
+        (found : Worst outside (λ q. getD after ((n - 1) * t .states + q) 0) sum at) where
+      in-states : (q : ℕ) → member outside q ≡ true → q < t .states
+      in-states q m = all .states q (both (member P q) _ (sym (rest q) ∙ m) .0)
+
+      last-row : (q : ℕ) → onPath t P A N q ≡ true → getD after ((n - 1) * t .states + q) 0 ≡ getD (sumsOf t P A N n) q 0
+      last-row q on =
+          let e : n - 1 + 1 ≡ n = omega arith in
+          rw e at (place-has (n - 1) q (omega arith) (in-states q (rest q ∙ on)))
+
+      agree : (largest (t .states) (member outside) (λ q. getD after ((n - 1) * t .states + q) 0) ≡ largestSum t P A N n) ×
+          (worst (t .states) (member outside) (λ q. getD after ((n - 1) * t .states + q) 0) ≡ worstStart t P A N n)
+      unfolding largestSum worstStart
+      agree = same-worst rest last-row (t .states)
+
+      pub sum-is : sum ≡ largestSum t P A N n
+      sum-is = is-largest in-states found ∙ agree .0
+
+      pub begins : (sum ≡ 0) ⊎ (at < t .states)
+      begins = go (sum =? 0) refl
+        where
+          go : (b : Bool) → (sum =? 0) ≡ b → (sum ≡ 0) ⊎ (at < t .states)
+          go true e = inl (eqb-true sum 0 e)
+          go false e = inr (in-states at (worst-in found (eqb-false sum 0 e)))
+
+      pub whole-is : wholePath (nextOf t) way′ after (n - 1) sum at ≡ worstPath t P A N n
+      unfolding wholePath worstPath
+      whole-is = rw (← sum-is) (go (sum =? 0) refl)
+        where
+          go : (b : Bool) → (sum =? 0) ≡ b → (if b then [] else pathIn (nextOf t) way′ after (n - 1) at) ≡ (if b then [] else pathFrom t P A N (n - 1) (worstStart t P A N n))
+          go true e = refl
+          go false e =
+              let other = eqb-false sum 0 e in
+              path-agrees (n - 1) at (omega arith) (in-states at (worst-in found other))
+              ∙ ap (pathFrom t P A N (n - 1)) (is-worst in-states found (omega arith) ∙ agree .1)
+
+-- ---- The answer, and what is written
+
+nothing : (t : Table) (P A N : ℕ) → largestSum t P A N 0 ≡ 0
+unfolding largestSum sumsOf
+nothing t P A N = le-zero (largest-at-most (t .states) (onPath t P A N) _ 0 (λ q on. rw (getD-zeros (t .states) q) (omega arith)))
+
+module _ (t : Table) (P A n : ℕ) where
+  pub no-moves : n ≡ 0 → (sums path : List ℕ) →
+      (record { time = t .bound; target = P; length = 0 } ≡ reactionOver t P A n) × (sums ≡ sumsOver t P A n sums) × (path ≡ pathOver t P A n path)
+  unfolding reactionOver sumsOver pathOver nextTimes rows worstPath
+  no-moves e sums path = rw (e, none, zero-mul (t .states)) (ap (λ time. record { time = time; target = P; length = 0 }) (sym (add-zero (t .bound))), refl, refl)
+    where
+      none : largestSum t P A P 0 ≡ 0
+      none = nothing t P A P
+
+  module _ (N : ℕ) (target : N ≡ nextTimes t P A n) where
+    pub reaction-is : {sum size : ℕ} → sum ≡ largestSum t P A N n → size ≡ length (worstPath t P A N n) →
+        record { time = t .bound + sum; target = N; length = size } ≡ reactionOver t P A n
+    unfolding reactionOver
+    reaction-is e f = rw (e, f, target)
+
+    pub sums-are : (before : List ℕ) {after : List ℕ} → after ≡ rows t P A N n ++ drop (n * t .states) before → after ≡ sumsOver t P A n before
+    unfolding sumsOver
+    sums-are before e = e ∙ rw target
+
+    pub path-is : (before : List ℕ) {after written : List ℕ} → written ≡ worstPath t P A N n → after ≡ placedIn before 0 written → after ≡ pathOver t P A n before
+    unfolding pathOver
+    path-is before {after} {written} e f = f ∙ rw (zero-add (length written), e, target)

@@ -1,0 +1,120 @@
+-- Each way out says what the definition says there.
+use mathlib.Core.Path.{_≡_, sym, _∙_}
+use borrow.Author.Tests.{not-true, not-false}
+use borrow.Author.Needs.{needs}
+use Prim.Native.Nat.{_^_}
+use mathlib.Core.Bool.{true}
+use Rattle.wire.specs.Choice.{_<?_}
+use Rattle.table.specs.Table.{WellFormed}
+use Rattle.table.specs.Check.{tableIn}
+use Rattle.table.proofs.WellFormed.{well-formed}
+use Rattle.reaction.specs.Reaction.{forHolds}
+use Rattle.reaction.proofs.Entry.{has-holds, has-timers}
+use Rattle.reaction.proofs.Meaning.{AllExist, known, leaving-first}
+use Rattle.reaction.proofs.Findings.{can-walk, below, leaving, none-leaves}
+use Rattle.moves.specs.declared.Judged.{Judged}
+use Rattle.moves.specs.declared.Judged.the-variants.{HasTimers}
+use Rattle.moves.specs.Moves.{judge}
+use Rattle.moves.proofs.InOrder.{no-state, no-input, too-many, leaves, no-room, passes}
+use Rattle.moves.proofs.judging.judge_checked.Statement.{statement}
+use Rattle.moves.proofs.judging.judge_checked.Tie as tie
+
+returns : tie.Need-returns
+returns c = rw (← c .before .read .ensures) (sym (has-timers _ _ _ (c .if1 .taken)))
+
+good : (c : tie.After-read) → WellFormed (c .read .result)
+good c = rw (c .read .ensures) (well-formed _ (c .before .before .pre))
+
+-- A table with holds: what is said of the table that was read is the answer.
+with-holds : (c : tie.Else1) (r : Judged) →
+    let start = c .before .before .before .args in
+    r ≡ judge (c .before .read .result) (start .states) (start .inputs) (start .moves) (start .sums) (start .path) →
+    r ≡ forHolds HasTimers (λ t. judge t (start .states) (start .inputs) (start .moves) (start .sums) (start .path)) (tableIn (start .table .now))
+with-holds c r e = rw (← c .before .read .ensures) (e ∙ sym (has-holds _ _ _ (c .if1 .left)))
+
+within-requires : tie.Need-within-requires
+within-requires c κs = good (c .before) .states .1
+
+returns-2 : tie.Need-returns-2
+returns-2 c = with-holds (c .before .before) _ (no-state _ _ _ _ _ _ (sym (c .before .within .ensures) ∙ not-true _ (c .if2 .taken)))
+
+states-in : (c : tie.Else2) → (c .before .before .before .before .before .args .states <? 2 ^ c .before .before .before .read .result .states) ≡ true
+states-in c = sym (c .before .within .ensures) ∙ not-false _ (c .if2 .left)
+
+within-requires-2 : tie.Need-within-requires-2
+within-requires-2 c κs = good (c .before .before .before) .inputs .1
+
+returns-3 : tie.Need-returns-3
+returns-3 c =
+    let two = c .before .before in
+    with-holds (two .before .before) _ (no-input _ _ _ _ _ _ (states-in two) (sym (c .before .within2 .ensures) ∙ not-true _ (c .if3 .taken)))
+
+inputs-in : (c : tie.Else3) → let read = c .before .before .before .before .before in (read .before .before .args .inputs <? 2 ^ read .read .result .inputs) ≡ true
+inputs-in c = sym (c .before .within2 .ensures) ∙ not-false _ (c .if3 .left)
+
+returns-4 : tie.Need-returns-4
+returns-4 c =
+    let three = c .before in
+    let two = three .before .before in
+    with-holds (two .before .before) _ (too-many _ _ _ _ _ _ (states-in two) (inputs-in three) (c .if4 .taken))
+
+all : (c : tie.Else3) →
+    let read = c .before .before .before .before .before in
+    AllExist (read .read .result) (read .before .before .args .states) (read .before .before .args .inputs)
+all c = record {
+  table = good (c .before .before .before .before .before);
+  states = known _ _ (states-in (c .before .before));
+  inputs = known _ _ (inputs-in c);
+}
+
+next-of-states-requires : tie.Need-next-of-states-requires
+next-of-states-requires c κs = can-walk (all (c .before .before .before))
+
+place-requires : tie.Need-place-requires
+place-requires c κs =
+    let found = c .before .before in
+    let known = all (found .before .before .before .before) in
+    (known .table .inputs .1, below known (found .next-of-states .result) (found .next-of-states .ensures))
+
+returns-5 : tie.Need-returns-5
+returns-5 c =
+    let found = c .before .before .before in
+    let four = found .before .before .before in
+    let three = four .before in
+    let two = three .before .before in
+    let first = leaving-first (all three) (leaving (all three) (found .next-of-states .result) (c .before .before .match .keys2) (found .next-of-states .ensures)) in
+    with-holds (two .before .before) _
+    (leaves _ _ _ _ _ _ (states-in two) (inputs-in three) (four .if4 .left) (first .0) _ (c .place .ensures ∙ first .1))
+
+lacks-room-requires : tie.Need-lacks-room-requires
+lacks-room-requires c κs =
+    let four = c .before .before .before .before .before in
+    (four .if4 .left, good (four .before .before .before .before .before .before) .states .1)
+
+returns-6 : tie.Need-returns-6
+returns-6 c =
+    let told = c .before .before in
+    let found = told .before .before in
+    let four = found .before .before .before in
+    let three = four .before in
+    let two = three .before .before in
+    let none = none-leaves (all three) (found .next-of-states .result) (told .before .match .keys1) (found .next-of-states .ensures) in
+    with-holds (two .before .before) _
+    (no-room _ _ _ _ _ _ (states-in two) (inputs-in three) (four .if4 .left) none (sym (c .before .lacks-room .ensures) ∙ c .if5 .taken))
+
+returns-7 : tie.Need-returns-7
+returns-7 c =
+    let told = c .before .before in
+    let found = told .before .before in
+    let four = found .before .before .before in
+    let three = four .before in
+    let two = three .before .before in
+    let none = none-leaves (all three) (found .next-of-states .result) (told .before .match .keys1) (found .next-of-states .ensures) in
+    with-holds (two .before .before) _
+    (passes _ _ _ _ _ _ (states-in two) (inputs-in three) (four .if4 .left) none (sym (c .before .lacks-room .ensures) ∙ c .if5 .left))
+
+pub judge-checked-spec : {M : Type 1} → statement M
+judge-checked-spec =
+    tie.close
+    (tie.spec (λ c κs. search needs) returns within-requires returns-2 within-requires-2 returns-3 returns-4 next-of-states-requires
+    (λ c. search needs) (λ c. search needs) place-requires returns-5 (λ c. search needs) lacks-room-requires returns-6 returns-7)

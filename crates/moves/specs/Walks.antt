@@ -1,0 +1,97 @@
+-- What the calculator's inner functions ask and find, over the arrays and slices that they are lent.
+use mathlib.Core.Path.{_≡_}
+use mathlib.Core.Bool.{true}
+use mathlib.Core.List.{List, [], _∷_}
+use mathlib.Core.Logic.{_⊎_}
+use Prim.Native.Nat.{ℕ, zero, suc, _+_, _-_, _*_, _/_, _%_, _<_, _≤_}
+use lib.ListN.{length, getD}
+use Rattle.wire.specs.Choice.{_<?_, _=?_, if_then_else_}
+use Rattle.sets.specs.Sets.{member, largest}
+use Rattle.table.specs.Entries.{values, zeros}
+use Rattle.reaction.specs.Meaning.{Pairs, NextStates}
+use Rattle.moves.specs.declared.rounds.Way.{Way}
+use Rattle.moves.specs.Moves.{worst}
+
+-- The array has the f i of the members i, and 0 for every other.
+abbrev pub Weighs : (set : ℕ) → (ℕ → ℕ) → List ℕ → Type 0
+Weighs set f array = (i : ℕ) → getD array i 0 ≡ (if member set i then f i else 0)
+
+-- A place for each member, from a place on.
+abbrev pub Reaches : (set from : ℕ) → List ℕ → Type 0
+Reaches set from s = (i : ℕ) → member set i ≡ true → from + i < length s
+
+-- No next state leaves the first so many.
+pub record Steps (next : ℕ → ℕ → ℕ) (way : Way) : Type 0 where
+  pub few : way .width ≤ 32
+  pub states : (1 ≤ way .states) × (way .states ≤ 32)
+  pub inputs : (a : ℕ) → member (way .inputs) a ≡ true → a < way .width
+  pub below : (q a : ℕ) → q < way .states → member (way .inputs) a ≡ true → next q a < way .states
+
+-- N comes of P by n times next under A, and next(P, A) is inside P.
+abbrev pub Times : (next : ℕ → ℕ → ℕ) → (P A n N : ℕ) → Type 0
+Times next P A zero N = N ≡ P
+Times next P A (suc n) N = (M : ℕ) × Times next P A n M × NextStates next M (Pairs M A) N
+
+-- `at` is the smallest member with the largest f of them, and that is `sum`; or all are 0, and `sum` is.
+pub record Worst (set : ℕ) (f : ℕ → ℕ) (sum at : ℕ) : Type 0 where
+  pub covers : (i : ℕ) → member set i ≡ true → f i ≤ sum
+  pub reached : (sum ≡ 0) ⊎ ((member set at ≡ true) × (f at ≡ sum) × ((j : ℕ) → j < at → member set j ≡ true → f j < sum))
+
+-- next(P, A) is inside P.
+abbrev pub Closed : (next : ℕ → ℕ → ℕ) → (P A : ℕ) → Type 0
+Closed next P A = (p a : ℕ) → Pairs P A p a → member P (next p a) ≡ true
+
+module _ (next : ℕ → ℕ → ℕ) (way : Way) where
+  -- ---- The sums, where `weigh q` is the weight of a state on a path, and 0 for any other
+
+  -- What the slice has for the next states of q, in the row at `from`.
+  abbrev pub aheadIn : List ℕ → ℕ → ℕ → ℕ → ℕ
+  aheadIn sums from q a = getD sums (from + next q a) 0
+
+  unfoldable pub roundIn : (ℕ → ℕ) → List ℕ → List ℕ
+  roundIn weigh row =
+      values (λ q. if weigh q =? 0 then 0 else weigh q + largest (way .width) (member (way .inputs)) (λ a. getD row (next q a) 0)) (way .states)
+
+  unfoldable pub rowIn : (ℕ → ℕ) → ℕ → List ℕ
+  rowIn weigh zero = zeros (way .states)
+  rowIn weigh (suc k) = roundIn weigh (rowIn weigh k)
+
+  -- The number at place k of the rows, and how it comes from those before it.
+  abbrev pub sumIn : (ℕ → ℕ) → ℕ → ℕ
+  sumIn weigh k = getD (rowIn weigh (k / way .states + 1)) (k % way .states) 0
+
+  unfoldable pub sumFrom : (ℕ → ℕ) → List ℕ → ℕ → ℕ
+  sumFrom weigh sums k =
+      let q = k % way .states in
+      if weigh q =? 0 then 0
+      else if k <? way .states then weigh q
+      else weigh q + largest (way .width) (member (way .inputs)) (aheadIn sums (k - q - way .states) q)
+
+  -- ---- The path along rows that stand in a slice
+
+  unfoldable pub pathIn : List ℕ → (follow q : ℕ) → List ℕ
+  pathIn sums zero q = q ∷ []
+  pathIn sums (suc k) q =
+      let f = aheadIn sums (k * way .states) q in
+      if largest (way .width) (member (way .inputs)) f =? 0 then q ∷ []
+      else q ∷ worst (way .width) (member (way .inputs)) f ∷ pathIn sums k (next q (worst (way .width) (member (way .inputs)) f))
+
+  -- After an input: the state to which it leads, with one fewer to follow.
+  abbrev pub inputIn : List ℕ → (left q input : ℕ) → List ℕ
+  inputIn sums left q input = input ∷ pathIn sums (left - 1) (next q input)
+
+  unfoldable pub wholePath : List ℕ → (follow sum q : ℕ) → List ℕ
+  wholePath sums follow sum q = if sum =? 0 then [] else pathIn sums follow q
+
+-- Where there is a path it begins at a state.
+abbrev pub Begins : (sum q : ℕ) → Way → Type 0
+Begins sum q way = (sum ≡ 0) ⊎ (q < way .states)
+
+-- No weight is above this: the longest hold and twice the largest cycle bound.
+abbrev pub heaviest : ℕ
+heaviest = 3720000
+
+-- The numbers from which place k comes are small enough to be added.
+pub record SumsFit (way : Way) (weigh : ℕ → ℕ) (sums : List ℕ) (k : ℕ) : Type 0 where
+  pub each-weight : (q : ℕ) → weigh q ≤ heaviest
+  pub each-sum : (j : ℕ) → j < k → getD sums j 0 ≤ 32 * heaviest

@@ -1,0 +1,78 @@
+// The worst path, along the rows of sums: a state step and an input step by turns.
+ghost use mathlib.Core.Path.{_≡_};
+ghost use mathlib.Core.Bool.{true};
+ghost use Prim.Native.Nat.{_+_, _*_, _<_, _≤_};
+ghost use lib.ListN.{length};
+ghost use Rattle.wire.specs.Choice.{_=?_, if_then_else_};
+ghost use Rattle.wire.specs.Encode.{placedIn};
+ghost use Rattle.sets.specs.Sets.{member};
+ghost use Rattle.reaction.specs.Walks.{inRows};
+ghost use Rattle.moves.specs.Walks.{Steps, inputIn, pathIn, wholePath, Begins};
+use crate::rounds::Most;
+use crate::rounds::Way;
+use crate::rounds::worst_step;
+use table::next_state;
+
+// Puts the state, and goes on where a path does; says where the path ends.
+fn state_step<'a>(
+    next: &'a [u8; 1024],
+    sums: &'a [u32],
+    way: Way,
+    path: &mut [u8],
+    at: usize,
+    left: usize,
+    state: u32,
+) -> usize
+    requires { ⌜ Steps (inRows (now next) (way .width)) way × (state < way .states) × (left ≤ 32) × (left * way .states ≤ length (now sums)) × (at + (left + left + 1) ≤ length (now path)) ⌝ }
+    ensures is { λ r. ⌜ r ≡ at + length (pathIn (inRows (now (next .entry)) (way .width)) way (now (sums .entry)) left state) ⌝ }
+    ensures holds { λ _. ⌜ now (path .exit) ≡ placedIn (now (path .entry)) at (pathIn (inRows (now (next .entry)) (way .width)) way (now (sums .entry)) left state) ⌝ }
+{
+    path[at] = state as u8;
+    if left == 0 {
+        return at + 1;
+    }
+    let worst = worst_step(next, sums, way, (left - 1) * way.states as usize, state);
+    if worst.sum == 0 {
+        return at + 1;
+    }
+    input_step(next, sums, way, path, at + 1, left, state, worst.member)
+}
+
+// Puts the input, and then the state to which it leads, with one move fewer left.
+fn input_step<'a>(
+    next: &'a [u8; 1024],
+    sums: &'a [u32],
+    way: Way,
+    path: &mut [u8],
+    at: usize,
+    left: usize,
+    state: u32,
+    input: u32,
+) -> usize
+    requires { ⌜ Steps (inRows (now next) (way .width)) way × (state < way .states) × (member (way .inputs) input ≡ true) × (0 < left) × (left ≤ 32) × (left * way .states ≤ length (now sums)) × (at + (left + left) ≤ length (now path)) ⌝ }
+    ensures is { λ r. ⌜ r ≡ at + length (inputIn (inRows (now (next .entry)) (way .width)) way (now (sums .entry)) left state input) ⌝ }
+    ensures holds { λ _. ⌜ now (path .exit) ≡ placedIn (now (path .entry)) at (inputIn (inRows (now (next .entry)) (way .width)) way (now (sums .entry)) left state input) ⌝ }
+{
+    path[at] = input as u8;
+    let to = next_state(next, way.width, state, input);
+    state_step(next, sums, way, path, at + 1, left - 1, to)
+}
+
+// From the first state, which is the worst, with so many to follow; nothing if its sum is 0.
+pub fn write_path<'a>(
+    next: &'a [u8; 1024],
+    sums: &'a [u32],
+    way: Way,
+    left: usize,
+    first: Most,
+    path: &mut [u8],
+) -> usize
+    requires { ⌜ Steps (inRows (now next) (way .width)) way × Begins (first .sum) (first .member) way × (left ≤ 32) × (left * way .states ≤ length (now sums)) × (left + left + 1 ≤ length (now path)) ⌝ }
+    ensures is { λ r. ⌜ r ≡ length (wholePath (inRows (now (next .entry)) (way .width)) way (now (sums .entry)) left (first .sum) (first .member)) ⌝ }
+    ensures holds { λ _. ⌜ now (path .exit) ≡ placedIn (now (path .entry)) 0 (wholePath (inRows (now (next .entry)) (way .width)) way (now (sums .entry)) left (first .sum) (first .member)) ⌝ }
+{
+    if first.sum == 0 {
+        return 0;
+    }
+    state_step(next, sums, way, path, 0, left, first.member)
+}

@@ -1,0 +1,70 @@
+/* An example host: asks how long it takes to a target in several moves. It prints the reaction time and the target set, the sums row by
+ * row, and one worst path. Sets are numbers, in which 2^i stands for member i.
+ *
+ *   rt staticlib krossvil
+ *   gcc -O2 -Iinclude examples/moves.c target/staticlib/libkrossvil.a -o moves
+ *   ./moves examples/back-to-idle/table.bin 31 1 3
+ */
+#include <stdio.h>
+#include <stdlib.h>
+#include "files.h"
+#include "krossvil.h"
+
+static uint8_t table[2048], path[KROSSVIL_PATH_MAX]; /* a table has at most 1,626 bytes */
+static uint32_t sums[KROSSVIL_SUMS_MAX];
+
+static void print_sums(uint32_t states, uint32_t moves)
+{
+    for (uint32_t row = 0; row < moves; row++) {
+        printf("row %u:", row);
+        for (uint32_t q = 0; q < states; q++)
+            printf(" %u", sums[row * states + q]);
+        printf("\n");
+    }
+}
+
+/* States and inputs by turns, a state first and last. */
+static void print_path(uint32_t length)
+{
+    printf("path:");
+    for (uint32_t k = 0; k < length; k++)
+        printf(k % 2 == 0 ? " state %u" : " input %u", path[k]);
+    fputs(length == 0 ? " none\n" : "\n", stdout);
+}
+
+/* A number of 32 bits in base ten; 0 if the word is none. */
+static int read_number(const char *word, uint32_t *number)
+{
+    char *end;
+    unsigned long long read = strtoull(word, &end, 10);
+    *number = (uint32_t)read;
+    if (*word >= '0' && *word <= '9' && *end == '\0' && read <= UINT32_MAX)
+        return 1;
+    fprintf(stderr, "%s is not a number of 32 bits\n", word);
+    return 0;
+}
+
+int main(int count, char **words)
+{
+    size_t size;
+    uint32_t states, inputs, moves;
+    uint8_t answer[KROSSVIL_MOVES_ANSWER];
+
+    if (count != 5) {
+        fprintf(stderr, "usage: moves TABLE STATES INPUTS MOVES\n");
+        return 2;
+    }
+    if (!load(words[1], table, sizeof table, &size) || !read_number(words[2], &states) || !read_number(words[3], &inputs) ||
+        !read_number(words[4], &moves))
+        return 2;
+    uint64_t code = krossvil_reaction_moves(table, size, states, inputs, moves, sums, KROSSVIL_SUMS_MAX, path, sizeof path, answer,
+                                            sizeof answer);
+    if (code != 0) {
+        printf("refused %u at %u\n", krossvil_number(code), krossvil_place(code));
+        return 1;
+    }
+    printf("within %u to the states of the set %u\n", krossvil_read(answer, 0), krossvil_read(answer, 1));
+    print_sums(table[3], moves); /* the table passed, so its fourth byte is the number of states */
+    print_path(krossvil_read(answer, 2));
+    return 0;
+}
