@@ -17,6 +17,7 @@ uint64_t second_run(const uint8_t *, size_t, const uint8_t *, size_t, uint8_t *,
 uint64_t second_reaction(const uint8_t *, size_t, uint32_t, uint32_t, uint8_t *, size_t);
 uint64_t second_reaction_moves(const uint8_t *, size_t, uint32_t, uint32_t, uint32_t, uint32_t *, size_t, uint8_t *, size_t, uint8_t *,
                                size_t);
+uint64_t second_reaction_tight(const uint8_t *, size_t, uint32_t, uint32_t, uint8_t *, size_t);
 uint64_t second_convert_table(const uint8_t *, size_t, uint8_t *, size_t, uint8_t *, size_t);
 uint64_t second_read_stamped(const uint8_t *, size_t, uint8_t *, size_t, uint8_t *, size_t);
 uint64_t second_check_short(const uint8_t *, size_t, const uint8_t *, size_t, uint8_t *, size_t);
@@ -29,6 +30,7 @@ uint64_t second_report_add(const uint8_t *, size_t, const uint8_t *, size_t, uin
 #define krossvil_run second_run
 #define krossvil_reaction second_reaction
 #define krossvil_reaction_moves second_reaction_moves
+#define krossvil_reaction_tight second_reaction_tight
 #define krossvil_convert_table second_convert_table
 #define krossvil_read_stamped second_read_stamped
 #define krossvil_check_short second_check_short
@@ -799,15 +801,15 @@ static void damage_pieces(const struct plan *plan, enum form form)
 
 enum entry {
     CHECK_TABLE, CHECK_JOURNAL, RUN, REACTION, CONVERT_TABLE, READ_STAMPED, CHECK_SHORT, SHORTEN, LENGTHEN, SALVAGE, REPORT_ADD,
-    REACTION_MOVES, ENTRIES
+    REACTION_MOVES, REACTION_TIGHT, ENTRIES
 };
 
 static const struct {
     const char *name;
     enum form takes, writes;
     size_t answer_size;
-    unsigned share, damaged; /* percent: of the random cases, and how many of these have a damaged table; REACTION_MOVES has no
-                                share, but follows each REACTION with a table of its own */
+    unsigned share, damaged; /* percent: of the random cases, and how many of these have a damaged table; the last two have no share,
+                                but follow each REACTION, REACTION_MOVES with a table of its own */
 } entries[ENTRIES] = {
     [CHECK_TABLE] = { "check_table", NOTHING, NOTHING, 0, 13, 65 },
     [CHECK_JOURNAL] = { "check_journal", JOURNAL, NOTHING, 28, 19, 11 },
@@ -821,12 +823,17 @@ static const struct {
     [SALVAGE] = { "salvage", JOURNAL, JOURNAL, 16, 5, 20 },
     [REPORT_ADD] = { "report_add", JOURNAL, REPORT, 0, 5, 25 },
     [REACTION_MOVES] = { "reaction_moves", NOTHING, SUMS, 12, 0, 20 },
+    [REACTION_TIGHT] = { "reaction_tight", NOTHING, NOTHING, 12, 0, 0 },
 };
 
 /* Entries of one shape, the reference's and the library's. */
 static uint64_t (*const checks[ENTRIES][2])(const uint8_t *, size_t, const uint8_t *, size_t, uint8_t *, size_t) = {
     [CHECK_JOURNAL] = { reference_check_journal, krossvil_check_journal },
     [CHECK_SHORT] = { reference_check_short, krossvil_check_short },
+};
+static uint64_t (*const calculators[ENTRIES][2])(const uint8_t *, size_t, uint32_t, uint32_t, uint8_t *, size_t) = {
+    [REACTION] = { reference_reaction, krossvil_reaction },
+    [REACTION_TIGHT] = { reference_reaction_tight, krossvil_reaction_tight },
 };
 static uint64_t (*const rewrites[ENTRIES][2])(const uint8_t *, size_t, const uint8_t *, size_t, uint8_t *, size_t, uint8_t *,
                                               size_t) = {
@@ -923,8 +930,8 @@ static void call_side(const struct call *call, bool library, struct side *side)
         side->returned = checks[call->entry][library](table, table_len, input, input_len, answer, answer_len);
         break;
     case REACTION:
-        side->returned = (library ? krossvil_reaction : reference_reaction)(table, table_len, call->states,
-                                                                            call->inputs, answer, answer_len);
+    case REACTION_TIGHT:
+        side->returned = calculators[call->entry][library](table, table_len, call->states, call->inputs, answer, answer_len);
         break;
     case REACTION_MOVES:
         side->returned = (library ? krossvil_reaction_moves : reference_reaction_moves)(
@@ -1118,14 +1125,28 @@ static const char *badly_moved(const struct call *call, const struct side *side)
     return bad != NULL ? bad : sum == largest ? NULL : "the path has not the largest sum";
 }
 
+/* What must hold of a tight time, by the calculator of the reference: time and target are its own, the tight time is at least E, and it is
+ * below the time by one tick or two, or not at all where the time is E. */
+static const char *badly_tightened(const struct call *call, const struct side *side)
+{
+    uint32_t bound = number_in(call->table->at + 10, 0), time = answer_number(&side->answer, 0), tight = answer_number(&side->answer, 2);
+    uint8_t answer[8];
+    if (reference_reaction(call->table->at, call->table->len, call->states, call->inputs, answer, sizeof answer) != 0 ||
+        time != number_in(answer, 0) || answer_number(&side->answer, 1) != number_in(answer, 1))
+        return "time and target are not the calculator's";
+    if (tight < bound || tight > time || time - tight > 2)
+        return "the tight time is below E, above the time, or more than two ticks below it";
+    return (tight == time) == (time == bound) ? NULL : "the tight time is the time where it must not be, or is not where it must be";
+}
+
 static bool same_bytes(const struct lent *lent, size_t written, const struct bytes *right)
 {
     return written == right->len && memcmp(lent->at + lent->before, right->at, written) == 0;
 }
 
 /* What must hold of one side by itself: a refusal changes nothing, a success nothing past the answer and the output, a
- * new table passes, a salvaged journal is accepted, a report has the right sums, a path is one, and the output is right where that is
- * known. */
+ * new table passes, a salvaged journal is accepted, a report has the right sums, a path is one, a tight time is near the time, and the
+ * output is right where that is known. */
 static const char *broken(const struct call *call, const struct side *side)
 {
     bool success = side->returned == 0;
@@ -1156,6 +1177,8 @@ static const char *broken(const struct call *call, const struct side *side)
         return badly_moved(call, side);
     if (success && call->entry == REPORT_ADD)
         return badly_added(call, side);
+    if (success && call->entry == REACTION_TIGHT)
+        return badly_tightened(call, side);
     return success && call->entry == SALVAGE ? badly_salvaged(call, side, written) : NULL;
 }
 
@@ -1206,7 +1229,7 @@ static void print_case(const char *label, const struct call *call, const char *r
         print_bytes("table", call->table->at, call->table->len);
     if (takes != NOTHING)
         print_bytes(form_names[takes], call->input->at, call->input->len);
-    if (call->entry == REACTION || call->entry == REACTION_MOVES)
+    if (calculators[call->entry][0] != NULL || call->entry == REACTION_MOVES)
         printf("  states %08" PRIX32 ", inputs %08" PRIX32 ", moves %" PRIu32 "\n", call->states, call->inputs, call->moves);
     if (call->entry == REACTION_MOVES) {
         printf("  path buffer of %zu bytes\n", call->path_len);
@@ -1612,6 +1635,15 @@ static void work_out_twice(const char *label, const struct call *call)
     }
 }
 
+/* The same question of the tight calculator. */
+static void ask_for_tight(const char *label, const struct call *reaction)
+{
+    struct call tight = *reaction;
+    tight.entry = REACTION_TIGHT;
+    tight.answer_len = draw_answer_len(entries[REACTION_TIGHT].answer_size);
+    compare(label, &tight, NULL);
+}
+
 /* The same question of one move, in both ways: the same refusal, or the same time and target. */
 static void ask_of_one_move(const char *label, const struct call *several)
 {
@@ -1628,6 +1660,7 @@ static void ask_of_one_move(const char *label, const struct call *several)
     one.entry = REACTION;
     one.output_len = one.path_len = 0;
     compare(label, &one, wanted);
+    ask_for_tight(label, &one);
     if (wanted[0] == 0)
         came_back[REACTION_MOVES]++;
 }
@@ -1715,8 +1748,10 @@ static void random_case(uint64_t seed, uint64_t number)
     }
     call.answer_len = entries[call.entry].answer_size == 0 ? 0 : draw_answer_len(entries[call.entry].answer_size);
     bool success = compare(label, &call, NULL) && library_side.returned == 0;
-    if (call.entry == REACTION)
+    if (call.entry == REACTION) {
+        ask_for_tight(label, &call);
         several_moves_case(label);
+    }
     if (!success)
         return;
     if (call.entry == READ_STAMPED && call.right != NULL && accepts_other_form())
@@ -1883,14 +1918,14 @@ static void paper_cases(void)
 {
     static const struct {
         uint32_t states, inputs;
-        uint64_t wanted[3];
+        uint64_t wanted[4]; /* the last: the tight time, which only the tight calculator gives */
     } sets[] = {
-        { 3, 1, { 0, 14, 1 } },       { 3, 2, { 0, 6, 2 } }, { 2, 1, { REFUSED(10, 2) } },
-        { 2, 2, { 0, 3, 2 } },        { 0, 1, { 0, 3, 0 } }, { 4, 1, { REFUSED(9, 0) } },
+        { 3, 1, { 0, 14, 1, 12 } }, { 3, 2, { 0, 6, 2, 5 } }, { 2, 1, { REFUSED(10, 2) } },
+        { 2, 2, { 0, 3, 2, 3 } },   { 0, 1, { 0, 3, 0, 3 } }, { 4, 1, { REFUSED(9, 0) } },
         { 3, 4, { REFUSED(9, 1) } },
     };
     struct plan plan = classroom();
-    struct call call = { .entry = REACTION, .table = &table, .input = &input, .answer_len = 32 };
+    struct call call = { .table = &table, .input = &input, .answer_len = 32 };
     char label[64];
 
     journal_cases(&plan);
@@ -1899,6 +1934,9 @@ static void paper_cases(void)
         snprintf(label, sizeof label, "paper's sets %zu", k);
         call.states = sets[k].states;
         call.inputs = sets[k].inputs;
+        call.entry = REACTION;
+        compare(label, &call, sets[k].wanted);
+        call.entry = REACTION_TIGHT;
         compare(label, &call, sets[k].wanted);
     }
 }
@@ -1925,6 +1963,8 @@ static void timer_cases(void)
     input.len = 0;
     call.entry = REACTION;
     compare("a reaction time with a timer", &call, (const uint64_t[]){ REFUSED(14, 0) });
+    call.entry = REACTION_TIGHT;
+    compare("a tight reaction time with a timer", &call, (const uint64_t[]){ REFUSED(14, 0) });
     call.entry = CONVERT_TABLE;
     compare("a timer converted", &call, (const uint64_t[]){ REFUSED(2, 26) });
     for (size_t k = 0; k < sizeof changes / sizeof *changes; k++) {
@@ -2707,7 +2747,7 @@ static bool can_give(enum entry entry, unsigned number)
         return entry != CHECK_TABLE;
     if (entry == REACTION_MOVES && (number == 32 || number == 33))
         return true;
-    if (entry == REACTION || entry == REACTION_MOVES)
+    if (entry == REACTION_MOVES || calculators[entry][0] != NULL)
         return number == 9 || number == 10 || number == 14;
     if (entry == SALVAGE)
         return number >= 19 && number <= 23; /* all that is wrong behind the opening field is salvaged */

@@ -1,4 +1,4 @@
-/* A second implementation of the twelve entries in plain C, written from the rules alone. The library is
+/* A second implementation of the thirteen entries in plain C, written from the rules alone. The library is
  * held against it. Each entry returns 0, or refusal number * 2^32 + place; on success the answer's numbers stand at
  * the start of `answer`, four bytes each, most significant byte first.
  *
@@ -7,6 +7,7 @@
  *   run            the journal's length
  *   reaction       reaction time, target
  *   reaction_moves the same of several moves, and the length of the path in bytes; the sums and the path are written beside it
+ *   reaction_tight reaction time, target, tight time
  *   convert_table  how many states have changed
  *   read_stamped   the journal's length
  *   check_short    as check_journal
@@ -30,6 +31,7 @@
 #define reference_reaction second_reaction
 #define reference_reaction_moves second_reaction_moves
 #define reference_several second_several
+#define reference_reaction_tight second_reaction_tight
 #define reference_convert_table second_convert_table
 #define reference_read_stamped second_read_stamped
 #define reference_check_short second_check_short
@@ -54,6 +56,9 @@ uint64_t reference_reaction(const uint8_t *table, size_t table_len, uint32_t sta
 uint64_t reference_reaction_moves(const uint8_t *table, size_t table_len, uint32_t states, uint32_t inputs, uint32_t moves,
                                   uint32_t *sums, size_t sums_len, uint8_t *path, size_t path_len, uint8_t *answer,
                                   size_t answer_len);
+
+uint64_t reference_reaction_tight(const uint8_t *table, size_t table_len, uint32_t states, uint32_t inputs,
+                                  uint8_t *answer, size_t answer_len);
 
 uint64_t reference_convert_table(const uint8_t *table, size_t table_len, uint8_t *new_table, size_t new_table_len,
                                  uint8_t *answer, size_t answer_len);

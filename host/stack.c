@@ -96,6 +96,11 @@ static void reaction_moves(void)
                                    sizeof path, answer, sizeof answer);
 }
 
+static void reaction_tight(void)
+{
+    code = krossvil_reaction_tight(table, table_len, 1, 1, answer, sizeof answer);
+}
+
 static void convert_table(void)
 {
     code = krossvil_convert_table(table, table_len, new_table, sizeof new_table, answer, sizeof answer);
@@ -186,9 +191,10 @@ int main(void)
     passed += measure("reaction", reaction, KROSSVIL_STACK);
     make_chain();
     passed += measure("reaction_moves", reaction_moves, KROSSVIL_STACK);
+    passed += measure("reaction_tight", reaction_tight, KROSSVIL_STACK);
     passed += measure("convert_table", convert_table, KROSSVIL_STACK);
     make_stamped();
     passed += measure("read_stamped", read_stamped, KROSSVIL_RUN_STACK);
-    printf("%d passed, %d failed\n", passed, 24 - passed);
-    return passed != 24;
+    printf("%d passed, %d failed\n", passed, 25 - passed);
+    return passed != 25;
 }

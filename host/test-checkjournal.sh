@@ -72,6 +72,16 @@ same() { # NAME FILE FILE: both have the same bytes
     fi
 }
 
+spelled() { # NAME DEFINITION FILE: the file has the bytes that this definition of crates/demands/specs/Tight.antt spells
+    local bytes
+    bytes=$(sed -n "/^$2 =\$/,/\[\]\$/p" "$root/crates/demands/specs/Tight.antt" | grep -o '0x[0-9A-F][0-9A-F]' | cut -c 3- | tr -d '\n')
+    if [ -n "$bytes" ] && [ "$bytes" = "$(od -A n -v -t x1 "$root/$3" | tr -d ' \n' | tr a-f A-F)" ]; then
+        result "$1" true "$3 is $2"
+    else
+        result "$1" false "$3 is not $2"
+    fi
+}
+
 if ! (cd "$root" && rt check checkjournal) >"$room/built" 2>&1; then
     cat "$room/built"
     exit 1
@@ -89,6 +99,10 @@ same 'the torn journal has the classroom table' examples/torn-journal/table.bin 
 same 'the season has the classroom table' examples/season/table.bin examples/classroom/table.bin
 same 'the early shift is the classroom run' examples/season/early.bin examples/classroom/journal.bin
 same 'the torn journal of the season is the torn journal' examples/season/torn.bin examples/torn-journal/torn.bin
+same 'the journal for 12 has the classroom table' examples/tight-times/twelve/table.bin examples/classroom/table.bin
+same 'the journal for 5 has the classroom table' examples/tight-times/five/table.bin examples/classroom/table.bin
+spelled 'the journal for 12 is that of the theorem' journalOfTwelve examples/tight-times/twelve/journal.bin
+spelled 'the journal for 5 is that of the theorem' journalOfFive examples/tight-times/five/journal.bin
 
 # ---- The runs of the classroom table
 
@@ -142,6 +156,16 @@ prints 'what is salvaged from it' 'accepted end=9 cycles=3 moves=1 state=1 outpu
 fresh
 cp "$root/examples/season/late.bin" journal.bin
 prints 'the late shift, with a tick at its end' 'accepted end=10 cycles=5 moves=3 state=1 output=1 left=2 longest=3'
+
+# ---- The journals that show two tight times to be least
+
+fresh
+cp "$root/examples/tight-times/twelve/journal.bin" .
+prints 'state 1 is left at 13, with input 0 present from 1 on' 'accepted end=13 cycles=5 moves=2 state=0 output=0 left=5 longest=3'
+
+fresh
+cp "$root/examples/tight-times/five/journal.bin" .
+prints 'state 0 is left at 6, with input 1 present from 1 on' 'accepted end=6 cycles=2 moves=1 state=1 output=1 left=0 longest=3'
 
 # ---- Tables with timers
 

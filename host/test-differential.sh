@@ -97,7 +97,7 @@ fi
 called=("$library")
 if [ "$self" = yes ]; then
     called=("$out/differential-second.o")
-    for entry in check_table check_journal run reaction reaction_moves convert_table read_stamped check_short shorten lengthen salvage report_add; do
+    for entry in check_table check_journal run reaction reaction_moves reaction_tight convert_table read_stamped check_short shorten lengthen salvage report_add; do
         called+=("-Dkrossvil_$entry=second_$entry")
     done
 fi
@@ -238,6 +238,26 @@ refused '9 at 1' "$idle/table.bin" 31 4 33
 refused '32 at 0' "$idle/table.bin" 30 1 33
 refused '14 at 0' examples/gas-burner/table.bin 32 1 33
 refused '11 at 40' examples/idle-sets/old-table.bin 4 4 33
+
+echo "== the example of tight times"
+compile examples/tight.c "${called[@]}" "${link[@]}" -o "$out/tight" || stop "did not build"
+tight() { # LINE WORDS: with these words it prints the line
+    local printed line=$1
+    shift
+    printed=$("${run[@]}" "$out/tight" "$@")
+    if [ "$printed" = "$line" ]; then
+        echo "$*: $printed"
+        passed=$((passed + 1))
+    else
+        echo "tight $*: '$printed', and not '$line'"
+        failed=$((failed + 1))
+    fi
+}
+tight 'time=14 target=1 tight=12' examples/tight-times/twelve/table.bin 3 1
+tight 'time=6 target=2 tight=5' examples/tight-times/five/table.bin 3 2
+tight 'time=3 target=2 tight=3' examples/classroom/table.bin 2 2
+tight 'refused 10 at 2' examples/classroom/table.bin 2 1
+tight 'refused 14 at 0' examples/classroom-timers/table.bin 3 1
 
 if [ "$self" = no ]; then
     echo "== the stack that the functions need"

@@ -107,7 +107,7 @@
  * The table's refusals, 1 to 8 and 11 to 13, come before all others: field by field; in field 06 entry by entry, each for 7 and
  * then for 11; in field 07 timer by timer, each for 13 at its length and then for 12 at its region; 8 is the last of them. Then,
  * of a journal, a stimulus or a short journal, 19, and field by field 20 to 28; of a stamped journal, which has no table, 19, and
- * field by field 20 to 22; of the calculator, 14, 9 for the states, 9 for the inputs, 10; of several moves the same with 32 before 10
+ * field by field 20 to 22; of the calculators, 14, 9 for the states, 9 for the inputs, 10; of several moves the same with 32 before 10
  * and 33 after it. Then, of krossvil_lengthen, 34. Then 30.
  * Of krossvil_report_add, after those of the journal, 30 if the report has no number at all, then 35, then 30.
  * krossvil_salvage gives 20 to 23 only at 0, for the opening field: it salvages from all that is wrong behind that.
@@ -137,6 +137,7 @@ extern "C" {
 #define KROSSVIL_RUN_ANSWER 4u      /* the journal's length in bytes */
 #define KROSSVIL_REACTION_ANSWER 8u /* reaction time, target set */
 #define KROSSVIL_MOVES_ANSWER 12u   /* reaction time, target set, the path's length in bytes */
+#define KROSSVIL_TIGHT_ANSWER 12u   /* reaction time, target set, tight time */
 #define KROSSVIL_CONVERT_ANSWER 4u  /* how many states have changed */
 #define KROSSVIL_STAMPED_ANSWER 4u  /* the journal's length in bytes */
 #define KROSSVIL_SHORT_ANSWER 28u   /* as that of a journal */
@@ -199,6 +200,13 @@ static inline size_t krossvil_path_len(uint32_t moves)
 {
     return moves == 0 ? 0 : 2 * (size_t)moves - 1;
 }
+
+/* What krossvil_reaction tells, and beside it the tight time, which is enough too, since times are whole numbers. Refusals are those of
+ * krossvil_reaction. Answer, 12 bytes: the reaction time, the target set, the tight time. The tight time is the reaction time where no
+ * member of `states` lies outside the target; otherwise it is less by 2 if one of those that do has a hold and delays an input of
+ * `inputs`, and by 1 if none does. Nothing is said of shorter times: for some tables one of them would be enough. */
+uint64_t krossvil_reaction_tight(const uint8_t *table, size_t table_len, uint32_t states, uint32_t inputs,
+                                 uint8_t *answer, size_t answer_len);
 
 /* For a table with holds that was made before there was 11. Write it at the start of `new_table`, with the delayed set emptied at
  * each state whose hold is 0, where it never had an effect: the new table has as many bytes, passes, and behaves the same in every

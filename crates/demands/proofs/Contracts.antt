@@ -40,7 +40,7 @@ use Rattle.krossvil.proofs.Stamps.{stamped-gives}
 use Rattle.krossvil.proofs.Restates.{shorten-gives, lengthen-gives}
 use Rattle.krossvil.proofs.Salvages.{salvage-gives}
 use Rattle.krossvil.proofs.Reports.{report-numbered}
-use Rattle.krossvil.specs.Host.{told, codeOf, numberBytes, answerAfter, journalTold, shortTold, bufferAfter, reactionTold, movesTold, reportTold}
+use Rattle.krossvil.specs.Host.{told, codeOf, numberBytes, answerAfter, journalTold, shortTold, bufferAfter, reactionTold, movesTold, tightTold, reportTold}
 use Rattle.moves.specs.declared.Judged as judged′
 use Rattle.moves.specs.declared.Judged.the-variants as judged
 use Rattle.moves.specs.declared.Answer as moves′
@@ -164,6 +164,7 @@ every-entry-determines = (
   record { asks-nothing = λ κs a. tt; one-outcome = λ κs a r r′ s s′ p p′. (p ∙ sym p′, refl) },
   record { asks-nothing = λ κs a. tt; one-outcome = λ κs a r r′ s s′ p p′. (p .0 ∙ sym (p′ .0), one (p .1 ∙ sym (p′ .1))) },
   record { asks-nothing = λ κs a. tt; one-outcome = λ κs a r r′ s s′ p p′. (p .0 ∙ sym (p′ .0), one (p .1 ∙ sym (p′ .1))) },
+  record { asks-nothing = λ κs a. tt; one-outcome = λ κs a r r′ s s′ p p′. (p ∙ sym p′, refl) },
   record { asks-nothing = λ κs a. tt; one-outcome = λ κs a r r′ s s′ p p′. (p .0 ∙ sym (p′ .0), one (p .1 ∙ sym (p′ .1))) },
   record { asks-nothing = λ κs a. tt; one-outcome = λ κs a r r′ s s′ p p′. (p ∙ sym p′, refl) },
   record { asks-nothing = λ κs a. tt; one-outcome = λ κs a r r′ s s′ p p′. (p ∙ sym p′, refl) },
@@ -196,6 +197,7 @@ every-entry-determines = (
     asks-nothing = λ κs a. tt;
     one-outcome = λ κs a r r′ s s′ p p′. (p .0 ∙ sym (p′ .0), two (p .1 .1 ∙ sym (p′ .1 .1)) (p .1 .0 ∙ sym (p′ .1 .0)));
   },
+  record { asks-nothing = λ κs a. tt; one-outcome = λ κs a r r′ s s′ p p′. (p .0 ∙ sym (p′ .0), one (p .1 ∙ sym (p′ .1))) },
   record {
     asks-nothing = λ κs a. tt;
     one-outcome = λ κs a r r′ s s′ p p′. (p .0 ∙ sym (p′ .0), two (p .1 .1 ∙ sym (p′ .1 .1)) (p .1 .0 ∙ sym (p′ .1 .0)));
@@ -272,6 +274,9 @@ every-refusal-keeps = (
       let told-as = answerIn restated.BufferTooShort made-is (length buffer) in
       both-kept (restate-answer.replyOf told-as) (restated-numbered told-as)
       (bufferIn made-is buffer) buffer (now (a .1 .1 .1 .0)) _ (p .1 .1) _ (p .1 .0) (λ e. other (p .0 ∙ e)),
+  λ κs a r s p other.
+      let answer = now (a .1 .1 .1 .0) in
+      one (p .1 ∙ answer-kept (tightTold (now (a .0)) (a .1 .0) (a .1 .1 .0) (length answer)) answer (λ e. other (p .0 ∙ e))),
   λ κs a r s p other.
       let buffer = now (a .1 .1 .0) in
       let made-is = salvageOf (now (a .0)) (now (a .1 .0)) in

@@ -1,8 +1,9 @@
 -- Acceptance and demand 3, as specs/Demands states them.
 use mathlib.Core.Path.{_≡_, refl, sym, _∙_}
 use mathlib.Core.List.{List, [], _∷_, _++_}
+use mathlib.Core.Bool.{true, false}
 use mathlib.Core.Logic.{_⊎_, inl, inr}
-use Prim.Native.Nat.{ℕ, zero, suc, _≤_}
+use Prim.Native.Nat.{ℕ, _+_, _≤_}
 use native.Mathlib.Omega.{arith}
 use lib.ListN.{length}
 use Rattle.wire.specs.Encode.{Bytes}
@@ -10,6 +11,8 @@ use Rattle.sets.specs.Sets.{member}
 use Rattle.table.specs.declared.Table.{Table}
 use Rattle.table.specs.Table.{outputOf, WellFormed}
 use Rattle.table.specs.Encode as tables
+use Rattle.table.specs.declared.Answer.the-variants.{Passes}
+use Rattle.table.specs.Check.{tableAnswer, tableIn}
 use Rattle.records.specs.declared.Record.{Record}
 use Rattle.records.specs.declared.Record.the-variants.{End}
 use Rattle.records.specs.Form as form
@@ -28,18 +31,18 @@ use Rattle.journal.specs.declared.Numbers.{Numbers}
 use Rattle.journal.specs.declared.Answer.the-variants.{Accepted}
 use Rattle.journal.specs.Check.{checkOf}
 use Rattle.reaction.specs.declared.Answer.the-variants.{Reacts}
-use Rattle.reaction.specs.Reaction.{reactOf}
+use Rattle.reaction.specs.Reaction.{weight, reactOf}
 use Rattle.reaction.specs.Meaning.{Slowest, Reaction}
-use Rattle.wire.proofs.Apart.{apart}
 use Rattle.machine.proofs.Watches.{no-regions}
-use Rattle.reaction.proofs.Entry.{entry-means, entry-refuses}
+use Rattle.reaction.proofs.Entry.{reacted}
 use Rattle.runs.specs.Accepted as runs
+use Rattle.runs.specs.Reaction.{Weights}
 use Rattle.runs.specs.Slots as slots
 use Rattle.runs.proofs.Automaton.{machine-is-automaton}
 use Rattle.runs.proofs.Soon.{not-too-soon, not-too-soon-by}
 use Rattle.runs.proofs.OneMove.{one-move}
 use Rattle.laws.specs.Journals.{JournalOf, AcceptedRun}
-use Rattle.laws.proofs.InTime.{weights, moves-in-time}
+use Rattle.laws.proofs.InTime.{calculated-weights, moves-in-time}
 use Rattle.moves.proofs.Fitting.{fits}
 use Rattle.laws.proofs.Moves.{answered}
 use Rattle.laws.proofs.Tables.{holds-that-table}
@@ -165,7 +168,7 @@ longest-is-a-cycle table journal table-bytes bytes n answer = longest-told table
 
 module _ {table journal : List ℕ} {t : Table} {input : ℕ} {records : List Record} {T : ℕ}
     (j : AcceptedJournal table journal t input records T) where
-  accepted : runs.Accepted t input records T
+  pub accepted : runs.Accepted t input records T
   accepted =
       let a = j .accepted in
       let h = j .holds in
@@ -174,21 +177,15 @@ module _ {table journal : List ℕ} {t : Table} {input : ℕ} {records : List Re
       let one = records-are-one form.journal (inTable form.journal t) (t .inputs) journal _ _ _ _ T _ (h .journal-is) (run .written) in
       rw (← one .0, ← one .1, a .end-is, ← h .records-are) at (run-accepted run)
 
-  -- Where there are timers the calculator gives no time.
-  plain : (P A c target : ℕ) → reactOf table P A ≡ Reacts c target → t .timers ≡ 0
-  plain P A c target e =
-      let read = holds-that-table table t (j .holds .well-formed) (j .holds .table-is) in
-      go (t .timers) (λ some. let f = sym (entry-refuses table (read .0) P A (rw (read .1) some)) ∙ e in apart cc)
-    where
-      go : (n : ℕ) → ((n ≡ 0 → ⊥) → n ≡ 0) → n ≡ 0
-      go zero h = refl
-      go (suc n) h = h (λ is. omega arith)
+  pub read : (tableAnswer table ≡ Passes) × (tableIn table ≡ t)
+  read = holds-that-table table t (j .holds .well-formed) (j .holds .table-is)
 
-  calculated : {P A c target : ℕ} → reactOf table P A ≡ Reacts c target → Reaction t P A c target
-  calculated {P} {A} {c} {target} e =
-      let read = holds-that-table table t (j .holds .well-formed) (j .holds .table-is) in
-      let none = plain P A c target e in
-      rw (read .1) at (entry-means table (read .0) P A (rw (read .1) none) (Reacts c target) (sym e))
+  -- Where there are timers the calculator gives no time.
+  pub plain : (P A c target : ℕ) → reactOf table P A ≡ Reacts c target → t .timers ≡ 0
+  plain P A c target e = rw (read .1) at (reacted table P A c target e .no-timers)
+
+  pub calculated : {P A c target : ℕ} → reactOf table P A ≡ Reacts c target → Reaction t P A c target
+  calculated {P} {A} {c} {target} e = rw (read .1) at (reacted table P A c target e .means)
 
 -- ---- Demand 3
 
@@ -198,28 +195,35 @@ accepted-not-too-soon-by table journal t input records T j k real = not-too-soon
 pub accepted-not-too-soon : NotTooSoon
 accepted-not-too-soon table journal t input records T j = not-too-soon t input records T (accepted j)
 
+-- A time that covers E and weights that are large enough is not too late.
+pub in-time : {t : Table} {P A time target : ℕ} → WellFormed t → t .timers ≡ 0 → Reaction t P A time target →
+    (w : ℕ → ℕ) → Weights t (member A) w → (c : ℕ) → t .bound ≤ c →
+    ((p : ℕ) → member P p ≡ true → member target p ≡ false → t .bound + w p ≤ c + 1) →
+    slots.NotTooLate t (member P) (member A) (member target) c
+in-time ok none r w large c covers-bound covers = one-move (record {
+  no-regions = no-regions ok none;
+  bound-positive = ok .bound .0;
+  weights = large;
+  has = λ p a x y. r .next .has p a (x, y);
+  inside = λ q n. let comes = r .next .only q n in rw (comes .is) at (r .next .inside (comes .state) (comes .input) (comes .pair));
+  covers-bound = covers-bound;
+  covers = covers;
+})
+
 covers-bound : {t : Table} {P A target time : ℕ} → (time ≡ t .bound) ⊎ Slowest t P A target time → t .bound ≤ time
 covers-bound (inl e) = omega arith
 covers-bound (inr slowest) = omega (arith, slowest .is)
 
-in-time : (t : Table) (P A c target : ℕ) → WellFormed t → t .timers ≡ 0 → Reaction t P A c target → slots.NotTooLate t (member P) (member A) (member target) c
-in-time t P A c target ok none r = one-move (record {
-  no-regions = no-regions ok none;
-  bound-positive = ok .bound .0;
-  weights = weights t A (r .inputs);
-  has = λ p a x y. r .next .has p a (x, y);
-  inside = λ q n. let comes = r .next .only q n in rw (comes .is) at (r .next .inside (comes .state) (comes .input) (comes .pair));
-  covers-bound = covers-bound (r .reached);
-  covers = r .covers;
-})
-
 pub accepted-not-too-late : NotTooLate
 accepted-not-too-late table journal t input records T j P A c target e =
-    in-time t P A c target (j .holds .well-formed) (plain j P A c target e) (calculated j e) input records T (accepted j)
+    let ok = j .holds .well-formed in
+    let r = calculated j e in
+    in-time ok (plain j P A c target e) r (weight t A) (calculated-weights t A (ok .bound .0) (r .inputs)) c (covers-bound (r .reached))
+    (λ p x y. omega (arith, r .covers p x y)) input records T (accepted j)
 
 pub accepted-not-too-late-by-moves : NotTooLateByMoves
 accepted-not-too-late-by-moves table journal t input records T j P A n sums path r e =
-    let read = holds-that-table table t (j .holds .well-formed) (j .holds .table-is) in
+    let same = read j .1 in
     let answer = answered table P A n sums path r e in
-    let ok = rw (read .1) at (fits table P A n sums path (answer .0)) in
-    rw (answer .1, read .1) (moves-in-time ok input records T (accepted j))
+    let ok = rw same at (fits table P A n sums path (answer .0)) in
+    rw (answer .1, same) (moves-in-time ok input records T (accepted j))

@@ -35,6 +35,8 @@ use Rattle.restate.proofs.shorten.Kinds as shorten-kinds
 use Rattle.restate.proofs.shorten.Reads as shorten
 use Rattle.restate.proofs.lengthen.Kinds as lengthen-kinds
 use Rattle.restate.proofs.lengthen.Reads as lengthen
+use Rattle.tight.proofs.react.Kinds as tight-kinds
+use Rattle.tight.proofs.react.Reads as tight
 use Rattle.salvage.specs.Answer as salvage-answer
 use Rattle.salvage.proofs.salvage.Kinds as salvage-kinds
 use Rattle.salvage.proofs.salvage.Reads as salvage
@@ -62,6 +64,8 @@ use Rattle.krossvil.proofs.krossvil_lengthen.Kinds as c-lengthen-kinds
 use Rattle.krossvil.proofs.krossvil_lengthen.Reads as c-lengthen
 use Rattle.krossvil.proofs.krossvil_reaction_moves.Kinds as c-moves-kinds
 use Rattle.krossvil.proofs.krossvil_reaction_moves.Reads as c-moves
+use Rattle.krossvil.proofs.krossvil_reaction_tight.Kinds as c-tight-kinds
+use Rattle.krossvil.proofs.krossvil_reaction_tight.Reads as c-tight
 use Rattle.krossvil.proofs.krossvil_salvage.Kinds as c-salvage-kinds
 use Rattle.krossvil.proofs.krossvil_salvage.Reads as c-salvage
 use Rattle.krossvil.proofs.krossvil_report_add.Kinds as c-report-kinds
@@ -124,6 +128,9 @@ shortener = entry 3 shorten-kinds.ps shorten-kinds.r shorten.Pre shorten.Post (�
 abbrev pub lengthener : Contract
 lengthener = entry 3 lengthen-kinds.ps lengthen-kinds.r lengthen.Pre lengthen.Post (λ κs a. now (a .1 .1 .0) ∷ []) (λ κs s. now (s .1 .1 .0) ∷ [])
 
+abbrev pub tightReact : Contract
+tightReact = entry 1 tight-kinds.ps tight-kinds.r tight.Pre tight.Post (λ κs a. []) (λ κs s. [])
+
 abbrev pub salvager : Contract
 salvager = entry 3 salvage-kinds.ps salvage-kinds.r salvage.Pre salvage.Post (λ κs a. now (a .1 .1 .0) ∷ []) (λ κs s. now (s .1 .1 .0) ∷ [])
 
@@ -179,6 +186,11 @@ lengthenerInC =
     entry 4 c-lengthen-kinds.ps c-lengthen-kinds.r c-lengthen.Pre c-lengthen.Post
     (λ κs a. now (a .1 .1 .0) ∷ now (a .1 .1 .1 .0) ∷ []) (λ κs s. now (s .1 .1 .0) ∷ now (s .1 .1 .1 .0) ∷ [])
 
+abbrev pub tightInC : Contract
+tightInC =
+    entry 2 c-tight-kinds.ps c-tight-kinds.r c-tight.Pre c-tight.Post
+    (λ κs a. now (a .1 .1 .1 .0) ∷ []) (λ κs s. now (s .1 .1 .1 .0) ∷ [])
+
 abbrev pub salvagerInC : Contract
 salvagerInC =
     entry 4 c-salvage-kinds.ps c-salvage-kinds.r c-salvage.Pre c-salvage.Post
@@ -199,10 +211,10 @@ pub record Determines (C : Contract) : Type 0 where
 abbrev pub EveryEntryDetermines : Type 0
 EveryEntryDetermines =
     Determines tableCheck × Determines journalCheck × Determines runtimeRun × Determines reactionReact × Determines movesReact × Determines converter
-    × Determines stampedReader × Determines shortCheck × Determines shortener × Determines lengthener × Determines salvager
+    × Determines stampedReader × Determines shortCheck × Determines shortener × Determines lengthener × Determines tightReact × Determines salvager
     × Determines reportBegin × Determines reportAdd
     × Determines tableInC × Determines journalInC × Determines runInC × Determines reactionInC × Determines movesInC × Determines converterInC
-    × Determines stampedInC × Determines shortInC × Determines shortenerInC × Determines lengthenerInC × Determines salvagerInC
+    × Determines stampedInC × Determines shortInC × Determines shortenerInC × Determines lengthenerInC × Determines tightInC × Determines salvagerInC
     × Determines reportInC
 
 -- ---- A refusal changes no lent byte
@@ -221,7 +233,8 @@ EveryRefusalKeeps =
     × RefusalKeeps journalInC (λ κs r. r) × RefusalKeeps runInC (λ κs r. r) × RefusalKeeps reactionInC (λ κs r. r)
     × RefusalKeeps movesInC (λ κs r. r)
     × RefusalKeeps converterInC (λ κs r. r) × RefusalKeeps stampedInC (λ κs r. r)
-    × RefusalKeeps shortInC (λ κs r. r) × RefusalKeeps shortenerInC (λ κs r. r) × RefusalKeeps lengthenerInC (λ κs r. r) × RefusalKeeps salvagerInC (λ κs r. r)
+    × RefusalKeeps shortInC (λ κs r. r) × RefusalKeeps shortenerInC (λ κs r. r) × RefusalKeeps lengthenerInC (λ κs r. r) × RefusalKeeps tightInC (λ κs r. r)
+    × RefusalKeeps salvagerInC (λ κs r. r)
     × RefusalKeeps reportInC (λ κs r. r)
 
 -- ---- The runtime never gives 28

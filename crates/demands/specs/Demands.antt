@@ -111,12 +111,15 @@ NotTooSoonBy =
     ((j : ℕ) → f ≤ j → j < n → timerDelays t k q (inputAt t input records j) ≡ true) →
     stateAt t input records n ≡ q
 
--- s + c < T, and each slot from s to s + c - 1 has its state in P and its input in A. Then slot s + c has its state in the target.
+-- Each slot from s to s + c - 1 has its state in P and its input in A.
+abbrev pub StaysIn : Table → (input : ℕ) → List Record → (P A s c : ℕ) → Type 0
+StaysIn t input records P A s c =
+    (k : ℕ) → s ≤ k → k < s + c → (member P (stateAt t input records k) ≡ true) × (member A (inputAt t input records k) ≡ true)
+
+-- s + c < T, and that is so. Then slot s + c has its state in the target.
 abbrev pub InTime : Table → (input : ℕ) → List Record → (T P A c target : ℕ) → Type 0
 InTime t input records T P A c target =
-    (s : ℕ) → s + c < T →
-    ((k : ℕ) → s ≤ k → k < s + c → (member P (stateAt t input records k) ≡ true) × (member A (inputAt t input records k) ≡ true)) →
-    member target (stateAt t input records (s + c)) ≡ true
+    (s : ℕ) → s + c < T → StaysIn t input records P A s c → member target (stateAt t input records (s + c)) ≡ true
 
 -- So it is with every time and target that the calculator gives for P and A, for one move ..
 abbrev pub NotTooLate : Type 0

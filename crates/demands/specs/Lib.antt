@@ -2,3 +2,4 @@ pub mod Demands
 pub mod Contracts
 pub mod Host
 pub mod Cases
+pub mod Tight

@@ -8,6 +8,7 @@ pub mod Converts
 pub mod Stamps
 pub mod Accepting
 pub mod Restates
+pub mod Tights
 pub mod Salvages
 pub mod Reports
 pub mod Several

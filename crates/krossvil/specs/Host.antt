@@ -33,6 +33,8 @@ use Rattle.reaction.specs.Answer as reaction
 use Rattle.reaction.specs.Reaction.{reactOf}
 use Rattle.moves.specs.Answer as moves
 use Rattle.moves.specs.Moves.{movesOf, sumsAfter, pathAfter}
+use Rattle.tight.specs.Answer as tight
+use Rattle.tight.specs.Tight.{reactTightOf}
 
 -- What the host is told of a reply with an answer buffer of so many bytes: 30 at 0 if it is too short for the numbers, four bytes each.
 -- That comes last, and a refusal has no numbers.
@@ -109,6 +111,9 @@ lengthenTold table bytes buffer room = told (restate.replyOf (answerIn restate�
 
 abbrev pub lengthenedJournal : List ℕ → List ℕ → List ℕ → ℕ → List ℕ
 lengthenedJournal table bytes buffer room = bufferAfter (lengthenTold table bytes buffer room) (bufferIn (lengthenOf table bytes) buffer) buffer
+
+abbrev pub tightTold : List ℕ → ℕ → ℕ → ℕ → Reply
+tightTold table P A room = told (tight.replyOf (reactTightOf table P A)) room
 
 abbrev pub salvageTold : List ℕ → List ℕ → List ℕ → ℕ → Reply
 salvageTold table records buffer room = told (salvage.replyOf (answerIn salvaged.BufferTooShort (salvageOf table records) (length buffer))) room

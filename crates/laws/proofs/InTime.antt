@@ -1,12 +1,12 @@
 -- The time for several moves suffices, once for every number of moves.
 use mathlib.Core.Path.{_≡_, refl}
 use mathlib.Core.Bool.{Bool, true, false}
-use Prim.Native.Nat.{ℕ, zero, suc, _+_, _-_, _≤_}
+use Prim.Native.Nat.{ℕ, zero, suc, _+_, _-_, _*_, _≤_}
 use native.Mathlib.Omega.{arith}
 use borrow.Author.Tests.{lt-ltb}
 use lib.ListN.{getD}
-use Rattle.wire.specs.Choice.{_and_}
-use Rattle.sets.specs.Sets.{member, some}
+use Rattle.wire.specs.Choice.{_and_, if_then_else_}
+use Rattle.sets.specs.Sets.{member}
 use Rattle.sets.proofs.Members.{some-if}
 use Rattle.table.specs.declared.Table.{Table}
 use Rattle.table.specs.Table.{holdOf, delays, nextOf}
@@ -14,7 +14,7 @@ use Rattle.machine.proofs.Watches.{no-regions}
 use Rattle.reaction.specs.Reaction.{weightOf, weight}
 use Rattle.reaction.specs.Meaning.{Known, Pairs}
 use Rattle.reaction.proofs.Meaning.{AllExist, stays}
-use Rattle.reaction.proofs.Findings.{weight-at-least}
+use Rattle.tight.specs.Tight.{fromHold}
 use Rattle.moves.specs.Moves.{nextTimes, most, sumsOf, largestSum, reactionOver}
 use Rattle.runs.specs.Reaction.{Weights, Reach, there, via, Suffices}
 use Rattle.runs.specs.Slots.{NotTooLate}
@@ -25,15 +25,27 @@ use Rattle.laws.proofs.Paths.{at-most}
 use Rattle.laws.proofs.Targets.{moves-on, shrinks, within}
 use Rattle.moves.proofs.Fitting.{Fits}
 
--- The calculator's weights are large enough.
-pub weights : (t : Table) (A : ℕ) → Known (t .inputs) A → Weights t (member A) (weight t A)
-unfolding weightOf
-weights t A known = record {
-  plain = λ q. weight-at-least (holdOf t q) (t .bound) (some (t .inputs) (λ a. member A a and delays t q a));
+-- Weights of E, and of h where the calculator's weight comes from a hold, are large enough if h is at least hold + 2E - 1.
+abbrev pub weighing : Table → ℕ → (ℕ → ℕ) → ℕ → ℕ
+weighing t A h q = if fromHold t A q then h q else t .bound
+
+pub weights : (t : Table) (A : ℕ) (h : ℕ → ℕ) → 1 ≤ t .bound → ((q : ℕ) → holdOf t q + 2 * t .bound ≤ h q + 1) → Known (t .inputs) A →
+    Weights t (member A) (weighing t A h)
+weights t A h some-bound large known = record {
+  plain = λ q. at-least q (fromHold t A q);
   delayed = λ q a is some-hold delayed.
       let yes = some-if (t .inputs) (λ a. member A a and delays t q a) a (known a is) (rw (is, delayed)) in
-      rw (lt-ltb 0 (holdOf t q) some-hold, yes) (omega arith);
+      rw (lt-ltb 0 (holdOf t q) some-hold, yes) (large q);
 }
+  where
+    at-least : (q : ℕ) (b : Bool) → t .bound ≤ (if b then h q else t .bound)
+    at-least q true = omega (arith, large q)
+    at-least q false = omega arith
+
+-- The calculator's own are.
+pub calculated-weights : (t : Table) (A : ℕ) → 1 ≤ t .bound → Known (t .inputs) A → Weights t (member A) (weight t A)
+unfolding weightOf
+calculated-weights t A some-bound known = weights t A (λ q. holdOf t q + 2 * t .bound) some-bound (λ q. omega arith) known
 
 weaken : {t : Table} {A N : ℕ → Bool} {w : ℕ → ℕ} {r q : ℕ} → Reach t A N w r q → (more : ℕ) → r ≤ more → Reach t A N w more q
 weaken (there n) more l = there n
@@ -64,7 +76,7 @@ module _ {t : Table} {P A : ℕ} (all : AllExist t P A) (inside : (p a : ℕ) �
     suffices = record {
       no-regions = no-regions (all .table) none;
       bound-positive = all .table .bound .0;
-      weights = weights t A (all .inputs);
+      weights = calculated-weights t A (all .table .bound .0) (all .inputs);
       stays = λ q a m h. shrinks all inside n (nextOf t q a) (moves-on all n q a m h);
       reaches = λ p m. from p m (member N p) refl;
       covers-bound = omega arith;

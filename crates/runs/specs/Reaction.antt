@@ -28,8 +28,8 @@ pub record Suffices (t : Table) (P A N : ℕ → Bool) (w : ℕ → ℕ) (c : �
   pub reaches : (p : ℕ) → P p ≡ true → Reach t A N w (c + 1 - t .bound) p
   pub covers-bound : t .bound ≤ c
 
--- One move, as the calculator has it: N holds every next(p, a) and nothing outside P, and c is at least E, and at least E + the weight of
--- each state in P outside N.
+-- One move, as the calculators have it: N holds every next(p, a) and nothing outside P, and c is at least E, and at least E + the weight of
+-- each state in P outside N, less 1.
 pub record OneMove (t : Table) (P A N : ℕ → Bool) (w : ℕ → ℕ) (c : ℕ) : Type 0 where
   pub no-regions : NoRegions t
   pub bound-positive : 1 ≤ t .bound
@@ -37,4 +37,4 @@ pub record OneMove (t : Table) (P A N : ℕ → Bool) (w : ℕ → ℕ) (c : ℕ
   pub has : (p a : ℕ) → P p ≡ true → A a ≡ true → N (nextOf t p a) ≡ true
   pub inside : (q : ℕ) → N q ≡ true → P q ≡ true
   pub covers-bound : t .bound ≤ c
-  pub covers : (p : ℕ) → P p ≡ true → N p ≡ false → t .bound + w p ≤ c
+  pub covers : (p : ℕ) → P p ≡ true → N p ≡ false → t .bound + w p ≤ c + 1

@@ -1,0 +1,176 @@
+-- Tight times in slots, and the two that are least, as specs/Tight states them.
+use mathlib.Core.Path.{_≡_, refl, sym, _∙_}
+use mathlib.Core.List.{List, [], _∷_, _++_}
+use mathlib.Core.Bool.{Bool, true, false, not}
+use Prim.Native.Nat.{ℕ, zero, suc, _+_, _-_, _*_, _<_, _≤_}
+use native.Mathlib.Omega.{arith}
+use borrow.Author.Tests.{ltb-true}
+use lib.Dec.{lit<}
+use Rattle.wire.specs.Choice.{_<?_, _and_, if_then_else_}
+use Rattle.wire.specs.Encode.{Bytes, field}
+use Rattle.wire.specs.Field.{fieldAt}
+use Rattle.wire.proofs.Choice.{never, both}
+use Rattle.sets.specs.Sets.{member, some, setOf, largest}
+use Rattle.sets.proofs.Members.{some-if}
+use Rattle.table.specs.declared.Table.{Table}
+use Rattle.table.specs.Table.{holdOf, WellFormed}
+use Rattle.table.specs.Answer.{_or-else_, _and-then_}
+use Rattle.table.specs.Entries.{entriesFrom, values}
+use Rattle.table.specs.Encode as tables
+use Rattle.table.specs.Encode.{words, timing}
+use Rattle.table.specs.Check.{named, fieldAnswer, rowAnswer, below, badWord, setAnswer, countsAnswer, boundAnswer, holdsAnswer, tagged, timingAnswer, entriesAnswer}
+use Rattle.table.specs.Check.{answerBy, timersIn, tableWith}
+use Rattle.table.specs.Under.{underTable}
+use Rattle.table.proofs.WellFormed.{well-formed}
+use Rattle.records.specs.declared.Record.{Record}
+use Rattle.records.specs.declared.Record.the-variants.{End}
+use Rattle.records.specs.Form as form
+use Rattle.records.specs.Reading.{lengthFits, knownIn, knownWith, openingIn, openingWith, recordOf, ranged, recordIn, recordAt, itemsFrom, itemsOf}
+use Rattle.records.proofs.Written.{journal-recovers}
+use Rattle.records.proofs.Says.{keeps-all}
+use Rattle.machine.specs.declared.Machine.{Machine}
+use Rattle.machine.specs.Verdict as watch
+use Rattle.machine.specs.Verdict.{ruleBy, strongest}
+use Rattle.machine.specs.Machine.{start, rule, verdict, left, stateAfter, regionsAfter, lastChange, gate, step}
+use Rattle.machine.specs.Walk.{walk, recordsRun, opened, ran, runOver}
+use Rattle.machine.proofs.RunsOver.{over-runs}
+use Rattle.journal.specs.Check.{numbersOf, answerOf}
+use Rattle.reaction.specs.Reaction.{nextSet, weightOf, reactionTime, firstFrom, firstLeaving, reactionOf, forHolds, reactOf}
+use Rattle.runs.specs.Slots.{slot, inputAt, stateAt}
+use Rattle.tight.specs.declared.Answer.the-variants.{Reacts}
+use Rattle.tight.specs.Tight.{fromHold, needOf, tightTime, reactTightOf}
+use Rattle.tight.proofs.Entry.{entry-gives, entry-covers}
+use Rattle.laws.proofs.InTime.{weighing, weights}
+use Rattle.laws.proofs.Journals.{ends-at, under}
+use Rattle.demands.specs.Demands.{AcceptedJournal, StaysIn}
+use Rattle.demands.specs.Cases.{classroomTable, classroom}
+use Rattle.demands.specs.Tight.{TightNotTooLate, LongerIsEnough, TooShort, Least, recordsOfTwelve, journalOfTwelve, recordsOfFive, journalOfFive, LeastTimes}
+use Rattle.demands.proofs.Demands.{accepted, read, plain, calculated, in-time}
+
+-- Slots that fulfil the premise for the longer time fulfil that for the shorter one, from later on.
+pub longer-is-enough : LongerIsEnough
+longer-is-enough table P A target c longer l enough journal t input records T j s u stays =
+    let later = s + (longer - c) in
+    let is : later + c ≡ s + longer = omega arith in
+    rw is at (enough journal t input records T j later (omega arith) (λ k from to. stays k (omega arith) (omega arith)))
+
+-- ---- Demand 3 with the tight time
+
+-- In whole ticks a weight of hold + 2E - 1 is large enough.
+abbrev snug : Table → ℕ → ℕ
+snug t q = holdOf t q + 2 * t .bound - 1
+
+snug-fits : (t : Table) (A c p : ℕ) → needOf t A p ≤ c → t .bound + weighing t A (snug t) p ≤ c + 1
+unfolding needOf
+snug-fits t A c p = go (fromHold t A p)
+  where
+    go : (b : Bool) → (if b then holdOf t p + 3 * t .bound - 2 else 2 * t .bound - 1) ≤ c →
+        t .bound + (if b then snug t p else t .bound) ≤ c + 1
+    go true l = omega arith
+    go false l = omega arith
+
+pub tight-not-too-late : TightNotTooLate
+tight-not-too-late table P A time target tight e journal t input records T j =
+    let given = entry-gives table P A time target tight e .0 in
+    let covers = entry-covers table P A time target tight e in
+    let same = read j .1 in
+    let ok = j .holds .well-formed in
+    let r = calculated j given in
+    in-time ok (plain j P A time target given) r (weighing t A (snug t)) (weights t A (snug t) (ok .bound .0) (λ q. omega arith) (r .inputs))
+    tight (rw same at (covers .bound)) (λ p x y. snug-fits t A tight p (rw same at (covers .needs p x y))) input records T (accepted j)
+
+-- ---- A journal that the machine goes through
+
+-- It is accepted, and holds the records taken.
+journal-accepted : (table journal : List ℕ) (t : Table) (input : ℕ) (taken : List Record) (last : Machine) → WellFormed t → table ≡ tables.encode t →
+    Bytes journal → runOver form.journal t journal ≡ ran input taken last → AcceptedJournal table journal t input taken (last .time)
+unfolding answerOf
+journal-accepted table journal t input taken last ok table-is bytes through =
+    let h = over-runs form.journal t journal input taken last journal-recovers bytes through in
+    let all : taken ≡ h .said ++ End (h .end) ∷ [] = sym (keeps-all form.journal refl taken) ∙ h .says in
+    let same : h .end ≡ last .time = ends-at t (h .end) (start (t .initial) input) last (h .said) (rw all at (h .runs)) in
+    record {
+      bytes = bytes;
+      accepted = record {
+        numbers = numbersOf t input taken last;
+        answer = sym (under table journal t ok table-is) ∙ rw through refl;
+        end-is = refl;
+      };
+      holds = record {
+        well-formed = ok;
+        table-is = table-is;
+        before-end = h .said;
+        journal-is = rw same at (h .written);
+        records-are = rw same at all;
+      };
+    }
+
+-- Bytes that were looked at one by one.
+all-bytes : List ℕ → Bool
+all-bytes [] = true
+all-bytes (b ∷ s) = (b <? 256) and all-bytes s
+
+are-bytes : (s : List ℕ) → all-bytes s ≡ true → Bytes s
+unfolding all-bytes
+are-bytes [] e k = omega arith
+are-bytes (b ∷ s) e zero = ltb-true b 256 (both (b <? 256) _ e .0)
+are-bytes (b ∷ s) e (suc k) = are-bytes s (both (b <? 256) _ e .1) k
+
+-- Slots that were looked at one by one.
+module _ (t : Table) (input : ℕ) (records : List Record) (P A s c : ℕ) where
+  abbrev in-sets : ℕ → Bool
+  in-sets k = member P (stateAt t input records k) and member A (inputAt t input records k)
+
+  looked-at : some c (λ k. not (in-sets (s + k))) ≡ false → StaysIn t input records P A s c
+  looked-at none k from to =
+      let is : s + (k - s) ≡ k = omega arith in
+      both (member P (stateAt t input records k)) _ (rw is at (go (in-sets (s + (k - s))) refl))
+    where
+      go : (b : Bool) → in-sets (s + (k - s)) ≡ b → b ≡ true
+      go true e = refl
+      go false e = never (sym none ∙ some-if c (λ k. not (in-sets (s + k))) (k - s) (omega arith) (rw e))
+
+-- ---- Least
+
+least-of : (table : List ℕ) (P A time target tight : ℕ) (journal : List ℕ) (input : ℕ) (records : List Record) →
+    reactTightOf table P A ≡ Reacts time target tight → TooShort table journal input records P A target (tight - 1) →
+    Least table P A time target tight journal input records
+least-of table P A time target tight journal input records answer shown = record {
+  answer = answer;
+  enough = tight-not-too-late table P A time target tight answer;
+  shown = shown;
+  least = λ c l enough.
+      let later = longer-is-enough table P A target c (tight - 1) (omega arith) enough in
+      never (sym (shown .outside)
+      ∙ later journal (shown .t) input records (shown .T) (shown .accepted) (shown .s) (shown .ends-later) (shown .stays-in));
+}
+
+classroom-well-formed : WellFormed classroomTable
+unfolding field fieldAt _or-else_ _and-then_ entriesFrom values tables.encode words timing named fieldAnswer rowAnswer below badWord setAnswer tagged
+    countsAnswer boundAnswer holdsAnswer timingAnswer entriesAnswer answerBy timersIn tableWith
+classroom-well-formed = well-formed classroom refl
+
+-- What is left to look at, one journal at a time: its bytes, the machine's run over them, and its slots.
+shows : (journal : List ℕ) (P A target c s input : ℕ) (records : List Record) (last : Machine) → all-bytes journal ≡ true →
+    runOver form.journal classroomTable journal ≡ ran input records last → s + c < last .time →
+    some c (λ k. not (in-sets classroomTable input records P A s c (s + k))) ≡ false →
+    member target (stateAt classroomTable input records (s + c)) ≡ false → TooShort classroom journal input records P A target c
+shows journal P A target c s input records last bytes through later none out = record {
+  t = classroomTable;
+  T = last .time;
+  accepted = journal-accepted classroom journal classroomTable input records last classroom-well-formed refl (are-bytes journal bytes) through;
+  s = s;
+  ends-later = later;
+  stays-in = looked-at classroomTable input records P A s c none;
+  outside = out;
+}
+
+pub least-times : LeastTimes
+unfolding field fieldAt some setOf largest _or-else_ _and-then_ entriesFrom values tables.encode words named fieldAnswer rowAnswer below badWord setAnswer tagged timing
+    countsAnswer boundAnswer holdsAnswer timingAnswer entriesAnswer answerBy timersIn tableWith underTable lengthFits knownIn knownWith openingIn openingWith recordOf
+    ranged recordIn recordAt itemsFrom itemsOf ruleBy strongest watch.largest rule verdict left regionsAfter stateAfter lastChange gate step walk
+    recordsRun opened runOver nextSet weightOf reactionTime firstFrom firstLeaving reactionOf forHolds reactOf needOf tightTime reactTightOf slot all-bytes
+least-times = (
+  least-of classroom 3 1 _ _ _ journalOfTwelve 1 recordsOfTwelve refl (shows journalOfTwelve 3 1 _ _ 1 1 recordsOfTwelve _ refl refl (lit< tt) refl refl),
+  least-of classroom 3 2 _ _ _ journalOfFive 0 recordsOfFive refl (shows journalOfFive 3 2 _ _ 1 0 recordsOfFive _ refl refl (lit< tt) refl refl),
+)

@@ -1,0 +1,3 @@
+pub mod Time
+pub mod Entry
+pub mod Below

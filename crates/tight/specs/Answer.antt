@@ -1,0 +1,10 @@
+-- What the calculator of tight times replies: docs/RULES.md, "Reaction times" and "Refusals".
+use mathlib.Core.List.{[], _∷_}
+use Rattle.wire.specs.Reply.{Reply, gives}
+use Rattle.reaction.specs.Answer as reaction
+use Rattle.tight.specs.declared.Answer.{Answer}
+use Rattle.tight.specs.declared.Answer.the-variants.{Reacts, Refused}
+
+abbrev pub replyOf : Answer → Reply
+replyOf (Reacts time target tight) = gives (time ∷ target ∷ tight ∷ [])
+replyOf (Refused refusal) = reaction.replyOf refusal

@@ -1,0 +1,36 @@
+/* An example host: asks how long a reaction takes, and how long in whole units. Sets are numbers, member i as 2^i. It prints the time, the
+ * target and the tight time, or the refusal.
+ *
+ *   rt staticlib krossvil
+ *   gcc -O2 -Iinclude examples/tight.c target/staticlib/libkrossvil.a -o tight
+ *   ./tight examples/classroom/table.bin 3 1
+ */
+#include <stdio.h>
+#include <stdlib.h>
+#include "files.h"
+#include "krossvil.h"
+
+/* A table that passes has at most 1,626 bytes. */
+static uint8_t table[2048];
+
+int main(int count, char **words)
+{
+    size_t size;
+    uint8_t answer[KROSSVIL_TIGHT_ANSWER];
+
+    if (count != 4) {
+        fprintf(stderr, "usage: tight TABLE STATES INPUTS\n");
+        return 2;
+    }
+    if (!load(words[1], table, sizeof table, &size))
+        return 2;
+
+    uint32_t states = (uint32_t)strtoul(words[2], NULL, 10), inputs = (uint32_t)strtoul(words[3], NULL, 10);
+    uint64_t code = krossvil_reaction_tight(table, size, states, inputs, answer, sizeof answer);
+    if (code != 0) {
+        printf("refused %u at %u\n", krossvil_number(code), krossvil_place(code));
+        return 1;
+    }
+    printf("time=%u target=%u tight=%u\n", krossvil_read(answer, 0), krossvil_read(answer, 1), krossvil_read(answer, 2));
+    return 0;
+}
