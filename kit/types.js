@@ -1,0 +1,255 @@
+/**
+ * The data that the modules of the kit exchange. There is no code here: only the shapes, and what each module exports.
+ *
+ * One rule for all modules: the kit never judges. Every answer, number and place is the proved library's.
+ *
+ * Numbers are plain numbers. A set is a number of 32 bits without sign: bit i stands for member i, `set >>> i & 1` asks for it.
+ * A place is a byte offset, counted from 0.
+ */
+
+/**
+ * The names of a table's members, in the order of their numbers. They live in the table's text alone; without one they are
+ * q0, q1 .., i0, i1 .., o0, o1 .., t0, t1 ...  A number at or beyond the end of a list has no name.
+ * @typedef {Object} Names
+ * @property {string[]} states
+ * @property {string[]} inputs
+ * @property {string[]} outputs
+ * @property {string[]} timers   empty in a table with holds
+ */
+
+/**
+ * A timer of a table with timers.
+ * @typedef {Object} Timer
+ * @property {number} length
+ * @property {number} region     set of states
+ * @property {number[]} delays   for each state the set of inputs that the timer delays in it
+ */
+
+/**
+ * What the bytes of a table say, in range or out of it. Only bytes whose six fields have their tags and lengths have a Table.
+ * @typedef {Object} Table
+ * @property {'holds'|'timers'} kind
+ * @property {{states: number, inputs: number, outputs: number}} counts
+ * @property {number} start      the initial state
+ * @property {number} cycle      E, the cycle bound
+ * @property {number[]} outputs  of each state
+ * @property {number[][]} next   rows by state: next[q][i]
+ * @property {number[]} holds    of each state; empty in a table with timers
+ * @property {number[]} delayed  for each state the set of inputs that its hold delays; empty in a table with timers
+ * @property {Timer[]} timers    empty in a table with holds
+ * @property {Uint8Array} rest   the bytes after the last field, which no table that passes has
+ * @property {Names} names
+ */
+
+/**
+ * How records stand in bytes. `journal`: tags 10..1F, times of four bytes. `stamped`: the same tags, stamps of two bytes.
+ * `short`: tags 30..3F, gaps of two bytes. `stimulus`: tags 20..2F, times of four bytes, and polls, tests and ticks without value.
+ * @typedef {'journal'|'stamped'|'short'|'stimulus'} Form
+ */
+
+/**
+ * @typedef {'input'|'change'|'poll'|'test'|'tick'|'end'|'bytes'} Kind
+ * `input` is the opening field; `bytes` is whatever is no whole, known field of the form.
+ */
+
+/**
+ * A field of a journal or a stimulus, as its bytes say it, in range or out of it.
+ * @typedef {Object} Record
+ * @property {number} place      where it starts
+ * @property {number} length     how many bytes it has, tag and length included; 0 for a record that is missing
+ * @property {Kind} kind
+ * @property {number} time       the time in units, reckoned from stamps or gaps where the form has them; 0 for `input`;
+ *                               for `bytes` that of the record before
+ * @property {number|null} written   the number that stands in the bytes for the time: time, stamp or gap; null for `input`, `bytes`
+ * @property {number|null} value input, verdict (0 held, 1 free) or state; null where the record has none
+ * @property {Form} form
+ */
+
+/**
+ * The machine, as accepted records show it.
+ * @typedef {Object} Machine
+ * @property {0|1|2|3} phase     0 before the poll, 1 before the test, 2 held, 3 free
+ * @property {number} present    the input at the sensor
+ * @property {number} polled     the polled input
+ * @property {number} polledAt   when it was polled; 0 before the first poll
+ * @property {number} state
+ * @property {number} change     when another input last came
+ * @property {number} entry      when the state was entered
+ * @property {number} cycleStart
+ * @property {number[]} regionEntries   for each timer: when its region was last entered from outside; empty in a table with holds
+ */
+
+/**
+ * A record and what it did. The opening is step 0.
+ * @typedef {Object} Step
+ * @property {Record} record
+ * @property {number} number
+ * @property {Machine|null} before   null for the opening, and behind the refused record
+ * @property {Machine|null} after    null for the refused record, and behind it
+ */
+
+/**
+ * A refusal, as the library gives it.
+ * @typedef {Object} Refusal
+ * @property {number} number
+ * @property {number} place
+ */
+
+/**
+ * The numbers of an accepted journal, as the library gives them, under the names of the program's line.
+ * @typedef {Object} Acceptance
+ * @property {number} end
+ * @property {number} cycles
+ * @property {number} moves
+ * @property {number} state
+ * @property {number} output
+ * @property {number} left
+ * @property {number} longest
+ */
+
+/**
+ * A journal under a table that passes: the library's answer, and every record with the machine before and after it.
+ *
+ * Exactly one of `answer` and `refused` is there. If it was refused, exactly one step is the refused one: `steps[stop]`, the first
+ * whose `after` is null. Where the refusal is that no further record is there (20 at the journal's length), that step has a record of
+ * kind `bytes` and length 0. Where the journal is too long (19), it is step 0.
+ *
+ * A stamped journal is read first, then its long form is checked. If the check refuses it, `refused.place` is the library's place in
+ * the long form, and `at` the place of the same record in the stamped journal. In every other case `at` is `refused.place`.
+ * @typedef {Object} Trace
+ * @property {Table} table
+ * @property {Names} names
+ * @property {Uint8Array} tableBytes
+ * @property {Uint8Array} journal     the bytes given
+ * @property {'journal'|'stamped'|'short'} form
+ * @property {Uint8Array|null} long   of a stamped journal that could be read, its long form; else null
+ * @property {Step[]} steps
+ * @property {Acceptance|null} answer
+ * @property {Refusal|null} refused
+ * @property {number|null} at         where in `journal` the refused record starts
+ * @property {number|null} stop       index of the refused step in `steps`
+ */
+
+/**
+ * Something that can hold a test in a state: the state's hold, or a timer whose region has the state.
+ * @typedef {Object} Clock
+ * @property {number|null} timer  the timer's number; null for a hold
+ * @property {number} length      a test at `from + length` is still held, the next later one is free
+ * @property {number} from        since when it runs: the entry into the state, or into the region
+ * @property {number} delays      set of inputs that it delays in the state
+ */
+
+/**
+ * trace.js exports
+ *   traceJournal(library: Library, given: {table: Uint8Array, journal: Uint8Array, form?: Form, names?: Names}): Trace | null
+ *       null if the table is refused: ask library.checkTable. Without `form` it is the one that the first byte shows.
+ *   accepted(trace: Trace): Step[]                  the steps that were accepted
+ *   clocks(table: Table, machine: Machine): Clock[] what can hold a test in the machine's state
+ *   holding(table: Table, machine: Machine, time: number): Clock[]   those that hold a test of the polled input at that time
+ *   left(trace: Trace, step: Step): number          ticks left at a test; 0 if it is free
+ *   visits(trace: Trace): Visit[]                   the states in the order in which they were entered
+ *   regionVisits(trace: Trace, timer: number): Span[]    when a timer's region was entered and left
+ *   inputs(trace: Trace): Visit[]                   the inputs at the sensor, likewise (`state` is the input's number)
+ *   ownValue(trace: Trace, step: Step): number|null what the machine has where a record was refused with 28; else null
+ *
+ * @typedef {{from: number, to: number|null}} Span          `to` is null where the journal does not show the end
+ * @typedef {{state: number, from: number, to: number|null}} Visit
+ */
+
+/**
+ * explain.js exports
+ *   explainTable(bytes: Uint8Array, refusal: Refusal, names?: Names): Explanation
+ *   explainRecords(...)  explainJournal(trace: Trace): Explanation
+ *   explainReaction(table: Table, refusal: Refusal, question: {states: number, inputs: number, moves?: number}): Explanation
+ *   narrate(trace: Trace, step: Step): string       one sentence for an accepted record: why it is so
+ *
+ * @typedef {Object} Explanation
+ * @property {string[]} sentences        what is wrong, with the names and numbers of the case
+ * @property {string|null} slip          the usual slip, where one of the five errors of students is the likely cause
+ * @property {SlipName|null} slipName
+ * @property {number|null} wanted        for a 28 the value that the machine has
+ * @property {{place: number, length: number}} blame   the bytes to point at
+ * @typedef {'hold-restarted'|'old-entry'|'hold-reached'|'wrong-instant'|'move-at-test'} SlipName
+ */
+
+/**
+ * A mistake in a text. Lines and columns count from 1; `width` characters are meant.
+ * @typedef {Object} Mistake
+ * @property {number} line
+ * @property {number} column
+ * @property {number} width
+ * @property {string} says
+ */
+
+/**
+ * Which piece of the text gave which bytes.
+ * @typedef {Object} Origin
+ * @property {number} place
+ * @property {number} length
+ * @property {number} line
+ * @property {number} column
+ * @property {number} width
+ */
+
+/**
+ * A part of a text: a table, a stimulus, or a journal of one of three forms.
+ * @typedef {Object} Part
+ * @property {'table'|Form} kind
+ * @property {number} line           where its first line stands
+ * @property {Uint8Array} bytes
+ * @property {Origin[]} origins      smaller pieces after larger ones that contain them
+ */
+
+/**
+ * notation.js exports
+ *   isText(data: Uint8Array|string): boolean        does it begin with the word `krossvil`?
+ *   readText(source: Uint8Array|string, names?: Names|null): Text
+ *   tableText(bytes: Uint8Array, names?: Names|null): string
+ *   recordsText(bytes: Uint8Array, form: Form, names?: Names|null, notes?: Map<number, string>): string
+ *       `notes`: a comment for the record at a place
+ *   originAt(part: Part, place: number): Origin|null     the smallest piece of text that gave the byte at the place
+ *   showMistakes(text: Text, file?: string): string      file:line:column, the line, a caret
+ *
+ * @typedef {Object} Text
+ * @property {Part[]} parts              those that could be read
+ * @property {Names|null} names          those of the table in the text, or those that were given
+ * @property {Mistake[]} mistakes        none if the text is sound
+ * @property {string[]} lines
+ */
+
+/**
+ * fields.js exports (bytes to values and back)
+ *   decodeTable(bytes: Uint8Array, names?: Names|null): Table|null
+ *   encodeTable(table: Table): Uint8Array
+ *   decodeRecords(bytes: Uint8Array, form: Form): Record[]
+ *   formOf(bytes: Uint8Array): 'table'|Form              what the first bytes show; it is a guess for broken ones
+ *   plainNames(counts, timers: number): Names
+ */
+
+/**
+ * library.js exports
+ *   loadLibrary(wasm: BufferSource): Promise<Library>
+ *
+ * Every function answers {ok: true, ..} or {ok: false, number, place}.
+ * @typedef {{ok: false, number: number, place: number}} Refused
+ * @typedef {Object} Library
+ * @property {(table: Uint8Array) => {ok: true} | Refused} checkTable
+ * @property {(table: Uint8Array, journal: Uint8Array) => ({ok: true} & Acceptance) | Refused} checkJournal
+ * @property {(table: Uint8Array, shortJournal: Uint8Array) => ({ok: true} & Acceptance) | Refused} checkShort
+ * @property {(table: Uint8Array, stimulus: Uint8Array) => {ok: true, bytes: Uint8Array} | Refused} run
+ * @property {(table: Uint8Array, states: number, inputs: number) => {ok: true, time: number, target: number} | Refused} reaction
+ * @property {(table: Uint8Array, states: number, inputs: number, moves: number) =>
+ *            {ok: true, time: number, target: number, sums: number[][], path: number[]} | Refused} reactionMoves
+ *            sums[r][q]; the path is state, input, state, input .. state
+ * @property {(table: Uint8Array, states: number, inputs: number) =>
+ *            {ok: true, time: number, target: number, tight: number} | Refused} reactionTight
+ * @property {(table: Uint8Array) => {ok: true, changed: number, bytes: Uint8Array} | Refused} convertTable
+ * @property {(stamped: Uint8Array) => {ok: true, bytes: Uint8Array} | Refused} readStamped
+ * @property {(table: Uint8Array, journal: Uint8Array) => {ok: true, bytes: Uint8Array} | Refused} shorten
+ * @property {(table: Uint8Array, shortJournal: Uint8Array) => {ok: true, bytes: Uint8Array} | Refused} lengthen
+ * @property {(table: Uint8Array, journal: Uint8Array) =>
+ *            {ok: true, kept: number, dropped: number, number: number, place: number, bytes: Uint8Array} | Refused} salvage
+ * @property {(table: Uint8Array, journal: Uint8Array, report: BigUint64Array) => {ok: true} | Refused} reportAdd
+ */
+
+export {};
