@@ -57,7 +57,10 @@ class Module {
     this.rooms = layOut(Number(this.exports.__heap_base.value));
   }
 
-  /** A slice that is read: the bytes are put in their room. @param {string} name @param {Uint8Array} bytes */
+  /**
+   * A slice that is read: the bytes are put in their room.
+   * @param {string} name @param {Uint8Array} bytes
+   */
   give(name, bytes) {
     const { at, size } = this.rooms[name];
     const length = Math.min(bytes.length, size);
@@ -65,7 +68,10 @@ class Module {
     return [at, BigInt(length)];
   }
 
-  /** A slice that is written: its whole room, of so many numbers. @param {string} name @param {number} [width] */
+  /**
+   * A slice that is written: its whole room, of so many numbers.
+   * @param {string} name @param {number} [width]
+   */
   lend(name, width = 1) {
     const { at, size } = this.rooms[name];
     return [at, BigInt(size / width)];
@@ -77,7 +83,10 @@ class Module {
     return this.memory.slice(at, at + length);
   }
 
-  /** The answer's numbers, under these names. @param {string[]} names */
+  /**
+   * The answer's numbers, under these names.
+   * @param {string[]} names
+   */
   answer(names) {
     const { at } = this.rooms.answer;
     return Object.fromEntries(names.map((name, k) => [name, this.view.getUint32(at + 4 * k)]));
@@ -97,15 +106,20 @@ class Module {
     return { ok: true, ...this.answer(names) };
   }
 
-  /** A call that writes bytes. `length` says how many, from the answer. @param {string} name @param {any[][]} args
-   * @param {string[]} names @param {(answer: any) => number} length @returns {any} */
+  /**
+   * A call that writes bytes. `length` says how many, from the answer.
+   * @param {string} name @param {any[][]} args @param {string[]} names @param {(answer: any) => number} length @returns {any}
+   */
   write(name, args, names, length) {
     const answer = this.call(name, [...args, this.lend('output')], names);
     return answer.ok ? { ...answer, bytes: this.take('output', length(answer)) } : answer;
   }
 }
 
-/** Answers whose only number is the length of what was written. @param {any} answer */
+/**
+ * Answers whose only number is the length of what was written.
+ * @param {any} answer
+ */
 function withoutLength(answer) {
   const { length, ...rest } = answer;
   return rest;
@@ -133,7 +147,10 @@ class Krossvil {
     return this.module.call('krossvil_check_short', this.#two(table, shortJournal), ACCEPTANCE);
   }
 
-  /** The journal of a stimulus. @param {Uint8Array} table @param {Uint8Array} stimulus */
+  /**
+   * The journal of a stimulus.
+   * @param {Uint8Array} table @param {Uint8Array} stimulus
+   */
   run(table, stimulus) {
     return this.#rewrite('krossvil_run', this.#two(table, stimulus));
   }
@@ -168,7 +185,10 @@ class Krossvil {
     return m.write('krossvil_convert_table', [m.give('table', table)], ['changed'], () => table.length);
   }
 
-  /** The long form of a stamped journal. @param {Uint8Array} stamped */
+  /**
+   * The long form of a stamped journal.
+   * @param {Uint8Array} stamped
+   */
   readStamped(stamped) {
     return this.#rewrite('krossvil_read_stamped', [this.module.give('input', stamped)]);
   }
@@ -183,15 +203,19 @@ class Krossvil {
     return this.#rewrite('krossvil_lengthen', this.#two(table, shortJournal));
   }
 
-  /** What is sound of a torn journal; `number` and `place` are the refusal that stopped it, 0 and 0 if none did.
-   * @param {Uint8Array} table @param {Uint8Array} journal */
+  /**
+   * What is sound of a torn journal; `number` and `place` are the refusal that stopped it, 0 and 0 if none did.
+   * @param {Uint8Array} table @param {Uint8Array} journal
+   */
   salvage(table, journal) {
     const names = ['kept', 'dropped', 'number', 'place'];
     return this.module.write('krossvil_salvage', this.#two(table, journal), names, (a) => a.kept + (a.number === 0 ? 0 : 7));
   }
 
-  /** Adds where the journal's time went; `report` is changed. @param {Uint8Array} table @param {Uint8Array} journal
-   * @param {BigUint64Array} report */
+  /**
+   * Adds where the journal's time went; `report` is changed.
+   * @param {Uint8Array} table @param {Uint8Array} journal @param {BigUint64Array} report
+   */
   reportAdd(table, journal, report) {
     const m = this.module;
     const used = report.subarray(0, REPORT_MAX);
