@@ -1,0 +1,496 @@
+/** Tables of both kinds as texts. */
+
+import { decodeTable, encodeTable, fieldAt, tablePlaces } from './fields.js';
+import { writtenName } from './lexer.js';
+import { didYouMean } from './mistakes.js';
+import { bytesLines, memberText } from './notation-records.js';
+import { behind, origin } from './reading.js';
+import { members, setOf } from './sets.js';
+
+/** @typedef {import('./types.js').Names} Names */
+/** @typedef {import('./types.js').Origin} Origin */
+/** @typedef {import('./types.js').Table} Table */
+/** @typedef {import('./types.js').Timer} Timer */
+/** @typedef {import('./lexer.js').Line} Line */
+/** @typedef {import('./lexer.js').Token} Token */
+/** @typedef {import('./reading.js').Reading} Reading */
+
+/**
+ * The lines of a state.
+ * @typedef {Object} Block
+ * @property {Line} line
+ * @property {Line|null} output
+ * @property {Line|null} hold
+ * @property {Line[]} delays  of timers
+ * @property {Line[]} arrows
+ */
+
+/**
+ * The lines of a table, by what they are about. `header` is the line `krossvil table`.
+ * @typedef {Object} Lines
+ * @property {Line} header
+ * @property {Map<string, Line>} heads
+ * @property {Line[]} timers
+ * @property {Block[]} blocks
+ * @property {Line[]} rest
+ */
+
+/** @typedef {{bytes: Uint8Array, origins: Origin[]}} Read */
+
+const HEADS = ['cycle', 'inputs', 'outputs', 'start'];
+const WORDS = [...HEADS, 'timer', 'state', 'output', 'hold', 'bytes'];
+const MOST_BYTE = 255;
+const MOST_NUMBER = 0xffffffff;
+const MOST_MEMBER = 31;
+
+/**
+ * The keyword that a line begins with; a name in quotation marks is none.
+ * @param {Line} line
+ */
+function keyword(line) {
+  const [first] = line.tokens;
+  return first.kind === 'word' ? first.text : '';
+}
+
+/**
+ * @param {Line} line @param {string} word
+ */
+function secondIs(line, word) {
+  return line.tokens[1]?.kind === 'word' && line.tokens[1].text === word;
+}
+
+/**
+ * Puts a line where it belongs; false if no part of a table is like this.
+ * @param {Lines} lines @param {Line} line @param {Reading} reading
+ */
+function put(lines, line, reading) {
+  const word = keyword(line);
+  const block = lines.blocks[lines.blocks.length - 1];
+  const second = (/** @type {Line|null|undefined} */ given, /** @type {string} */ says) => {
+    if (given) reading.mistakes.add(line.number, line.tokens[0], says);
+  };
+  if (word === 'state' && !line.tokens.some((token) => token.kind === 'arrow')) {
+    lines.blocks.push({ line, output: null, hold: null, delays: [], arrows: [] });
+  } else if (line.tokens.some((token) => token.kind === 'arrow')) {
+    if (block) block.arrows.push(line);
+    else reading.mistakes.add(line.number, line.tokens[0], 'an arrow belongs under a state');
+  } else if (word === 'bytes') {
+    lines.rest.push(line);
+  } else if ((word === 'output' || word === 'hold') && block) {
+    second(block[word], `a second '${word}' for one state`);
+    block[word] = line;
+  } else if (HEADS.includes(word)) {
+    second(lines.heads.get(word), `a second '${word}' for one table`);
+    lines.heads.set(word, line);
+  } else if (word === 'timer') {
+    lines.timers.push(line);
+  } else if (secondIs(line, 'delays') && block) {
+    block.delays.push(line);
+  } else {
+    return false;
+  }
+  return true;
+}
+
+/**
+ * @param {Reading} reading @param {Line} line
+ */
+function notUnderstood(reading, line) {
+  const [first, second] = line.tokens;
+  const stateless = ['output', 'hold'].includes(first.text) || secondIs(line, 'delays');
+  const says = stateless ? `'${secondIs(line, 'delays') ? 'delays' : first.text}' belongs under a state` : `'${first.text}' is not understood here`;
+  const wrongDelays = second && !stateless && !didYouMean(first.text, WORDS) && didYouMean(second.text, ['delays']);
+  if (wrongDelays) reading.mistakes.add(line.number, second, `'${second.text}' is not understood here${wrongDelays}`);
+  else reading.mistakes.add(line.number, first, says + (stateless ? '' : didYouMean(first.text, WORDS)));
+}
+
+/**
+ * @param {Reading} reading @param {Line} header @param {Line[]} body
+ * @returns {Lines}
+ */
+function sorted(reading, header, body) {
+  const lines = { header, heads: new Map(), timers: [], blocks: [], rest: [] };
+  for (const line of body) {
+    if (!put(lines, line, reading)) notUnderstood(reading, line);
+  }
+  return lines;
+}
+
+/**
+ * The names that a line lists after its first word.
+ * @param {Reading} reading @param {Line|undefined} line @param {'input'|'output'} what
+ * @returns {string[]}
+ */
+function readNames(reading, line, what) {
+  const before = reading.mistakes.count;
+  const tokens = line ? reading.listed(line, line.tokens.slice(1), `${what}s`) : [];
+  for (const [k, token] of tokens.entries()) {
+    if (!line || !reading.isName(line, token)) continue;
+    if (tokens.findIndex((other) => other.text === token.text) < k) reading.mistakes.add(line.number, token, `'${token.text}' stands twice`);
+  }
+  if (line && tokens.length > MOST_BYTE) reading.mistakes.add(line.number, tokens[MOST_BYTE], `more than ${MOST_BYTE} ${what}s do not fit in a byte`);
+  if (!line || reading.mistakes.count > before) reading.unsound.add(what);
+  return tokens.map((token) => token.text);
+}
+
+/**
+ * The names that stand second in lines, as those of states and timers.
+ * @param {Reading} reading @param {Line[]} lines @param {'state'|'timer'} what
+ * @returns {string[]}
+ */
+function readSecondNames(reading, lines, what) {
+  const before = reading.mistakes.count;
+  const names = lines.map((line) => line.tokens[1]?.text ?? '');
+  for (const [k, line] of lines.entries()) {
+    const token = line.tokens[1];
+    if (!token) reading.mistakes.add(line.number, behind(line), `the ${what}'s name is missing`);
+    else if (reading.isName(line, token) && names.indexOf(token.text) < k) {
+      reading.mistakes.add(line.number, token, `a second ${what} '${token.text}'`);
+    }
+    if (what === 'state') reading.tooMany(line, line.tokens[2]);
+  }
+  if (lines.length > MOST_BYTE) reading.mistakes.add(lines[MOST_BYTE].number, null, `more than ${MOST_BYTE} ${what}s do not fit in a byte`);
+  if (reading.mistakes.count > before) reading.unsound.add(what);
+  return names;
+}
+
+/** What is gathered of a table while it is read. */
+class Gathered {
+  /**
+   * @param {Reading} reading @param {Lines} lines @param {Names} names
+   */
+  constructor(reading, lines, names) {
+    this.reading = reading;
+    this.lines = lines;
+    this.names = names;
+    this.counts = { states: names.states.length, inputs: names.inputs.length, outputs: names.outputs.length };
+    this.places = tablePlaces(this.counts, lines.timers.length);
+    /** @type {Origin[]} */
+    this.origins = [];
+    /**
+     * What is missing: said only if nothing else is wrong, since it often only follows from that.
+     * @type {[Line, string][]}
+     */
+    this.absent = [];
+  }
+
+  /**
+   * @param {number} place @param {number} length @param {Line} line @param {(Token|undefined)[]} [tokens]  all of the line if none are there
+   */
+  came(place, length, line, tokens = []) {
+    const given = /** @type {Token[]} */ (tokens.filter((token) => token !== undefined));
+    this.origins.push(origin(place, length, line, given.length > 0 ? given : line.tokens));
+  }
+
+  /**
+   * Inputs or states after a word, as a set.
+   * @param {Line} line @param {number} from @param {'input'|'state'} what
+   */
+  set(line, from, what) {
+    const tokens = this.reading.listed(line, line.tokens.slice(from), `${what}s`);
+    return setOf(tokens.map((token) => this.reading.member(line, token, what, MOST_MEMBER)));
+  }
+
+  /**
+   * The word that a set comes after must be there, and the set too.
+   * @param {Line} line @param {number} at @param {string} word @param {string} says
+   */
+  expect(line, at, word, says) {
+    const there = line.tokens[at]?.kind === 'word' && line.tokens[at].text === word && line.tokens.length > at + 1;
+    if (!there) this.reading.mistakes.add(line.number, line.tokens[at] ?? behind(line), says);
+    return there;
+  }
+}
+
+/**
+ * @param {Gathered} g
+ */
+function readCycle(g) {
+  const line = g.lines.heads.get('cycle');
+  if (!line) return 0;
+  g.reading.tooMany(line, line.tokens[2]);
+  g.came(7, 7, line);
+  g.came(10, 4, line, [line.tokens[1]]);
+  return g.reading.number(line, line.tokens[1], MOST_NUMBER, 'the cycle bound');
+}
+
+/**
+ * The initial state, and where the counts came from.
+ * @param {Gathered} g
+ */
+function readStart(g) {
+  const { heads, blocks, header } = g.lines;
+  const [inputs, outputs, start] = ['inputs', 'outputs', 'start'].map((word) => heads.get(word));
+  const listedTokens = (/** @type {Line} */ line) => line.tokens.slice(1).filter((token) => token.kind !== 'comma');
+  g.came(3, 1, blocks[32]?.line ?? header);
+  if (inputs) g.came(4, 1, inputs, [listedTokens(inputs)[32]]);
+  if (outputs) g.came(5, 1, outputs, [listedTokens(outputs)[32]]);
+  if (!start) return 0;
+  g.reading.tooMany(start, start.tokens[2]);
+  g.came(6, 1, start, [start.tokens[1]]);
+  return g.reading.member(start, start.tokens[1], 'state');
+}
+
+/**
+ * @param {Gathered} g @param {Block} block @param {number} q
+ */
+function readOutput(g, block, q) {
+  const line = block.output;
+  g.came(g.places.output(q), 1, line ?? block.line, line ? [line.tokens[1]] : []);
+  if (!line) {
+    g.absent.push([block.line, `state '${g.names.states[q]}' does not say its output`]);
+    return 0;
+  }
+  g.reading.tooMany(line, line.tokens[2]);
+  return g.reading.member(line, line.tokens[1], 'output');
+}
+
+/**
+ * @param {Gathered} g @param {Block} block @param {number} q
+ * @returns {[number, number]} the hold, and the inputs that it delays
+ */
+function readHold(g, block, q) {
+  const line = block.hold;
+  if (g.lines.timers.length > 0) {
+    if (line) g.reading.mistakes.add(line.number, line.tokens[0], "a table with timers has no holds: give the state a timer of its own");
+    return [0, 0];
+  }
+  g.came(g.places.hold(q), 4, line ?? block.line, line ? [line.tokens[1]] : []);
+  g.came(g.places.delayed(q), 4, line ?? block.line, line ? line.tokens.slice(3) : []);
+  if (!line) return [0, 0];
+  const hold = g.reading.number(line, line.tokens[1], MOST_NUMBER, 'a hold');
+  const says = "after the hold comes 'delays' and the inputs that it delays";
+  if (line.tokens.length < 3 || !g.expect(line, 2, 'delays', says)) return [hold, 0];
+  return [hold, g.set(line, 3, 'input')];
+}
+
+/**
+ * The sets that the timers delay in a state.
+ * @param {Gathered} g @param {Block} block @param {number} q
+ * @returns {number[]}
+ */
+function readDelays(g, block, q) {
+  const sets = g.lines.timers.map(() => 0);
+  const seen = new Set();
+  sets.forEach((_, k) => g.came(g.places.delays(q, k), 4, block.line));
+  for (const line of block.delays) {
+    const before = g.reading.mistakes.count;
+    const k = g.reading.member(line, line.tokens[0], 'timer');
+    if (!g.expect(line, 1, 'delays', "after 'delays' come the inputs that the timer delays")) continue;
+    const set = g.set(line, 2, 'input');
+    if (g.reading.mistakes.count > before) continue;
+    if (k >= sets.length) g.reading.mistakes.add(line.number, line.tokens[0], 'there is no such timer');
+    else if (seen.has(k)) g.reading.mistakes.add(line.number, line.tokens[0], `a second 'delays' of this timer for one state`);
+    seen.add(k);
+    sets[k] = set;
+    g.came(g.places.delays(q, k), 4, line, line.tokens.slice(2));
+  }
+  return sets;
+}
+
+/**
+ * The target of an arrow; its inputs are added to the row.
+ * @param {Gathered} g @param {Line} line @param {Map<number, number>} row @param {number} q
+ */
+function readArrow(g, line, row, q) {
+  const { mistakes } = g.reading;
+  const at = line.tokens.findIndex((token) => token.kind === 'arrow');
+  if (at === 0 || at !== line.tokens.length - 2) {
+    mistakes.add(line.number, line.tokens[at], 'an arrow is written: input -> state');
+    return;
+  }
+  const to = g.reading.member(line, line.tokens[at + 1], 'state');
+  for (const token of g.reading.listed(line, line.tokens.slice(0, at), 'inputs')) {
+    const before = mistakes.count;
+    const i = g.reading.member(line, token, 'input');
+    const known = mistakes.count === before && g.names.inputs.length > 0 && (token.kind === 'number' || g.names.inputs.includes(token.text));
+    if (!known) continue;
+    if (row.has(i)) mistakes.add(line.number, token, `a second arrow for input '${token.text}' in state '${g.names.states[q]}'`);
+    else if (i >= g.counts.inputs) mistakes.add(line.number, token, `there is no input ${i} that an arrow could be for`);
+    row.set(i, to);
+    g.came(g.places.next(q, i), 1, line, [line.tokens[at + 1]]);
+  }
+}
+
+/**
+ * @param {Gathered} g @param {Block} block @param {number} q
+ * @returns {number[]}
+ */
+function readRow(g, block, q) {
+  /** @type {Map<number, number>} */
+  const row = new Map();
+  for (const line of block.arrows) readArrow(g, line, row, q);
+  const missing = g.names.inputs.filter((_, i) => !row.has(i)).map(writtenName);
+  if (missing.length > 0) {
+    const state = g.names.states[q];
+    const many = missing.length > 1 ? 's' : '';
+    const says = `state '${state}' has no arrow for input${many} ${missing.join(', ')}; if it stays, write: ${missing.join(', ')} -> ${writtenName(state)}`;
+    g.absent.push([block.line, says]);
+  }
+  return g.names.inputs.map((_, i) => row.get(i) ?? 0);
+}
+
+/**
+ * A timer's length and region. A region of no state is written as a dash.
+ * @param {Gathered} g @param {Line} line @param {number} k
+ */
+function readTimer(g, line, k) {
+  const length = g.reading.number(line, line.tokens[2], MOST_NUMBER, "a timer's length");
+  g.came(g.places.length(k), 4, line, [line.tokens[2]]);
+  g.came(g.places.region(k), 4, line, line.tokens.slice(4));
+  const says = "after the length comes 'over' and the states over which the timer runs, or a dash if there are none";
+  if (line.tokens[2] && !g.expect(line, 3, 'over', says)) return { length, region: 0 };
+  const none = line.tokens.length === 5 && line.tokens[4].kind === 'dash';
+  return { length, region: none || !line.tokens[2] ? 0 : g.set(line, 4, 'state') };
+}
+
+/**
+ * Everything of a table but the names.
+ * @param {Gathered} g @param {Uint8Array} rest
+ * @returns {Table}
+ */
+function readValues(g, rest) {
+  const { blocks, timers } = g.lines;
+  const each = (/** @type {(g: Gathered, block: Block, q: number) => any} */ read) => blocks.map((block, q) => read(g, block, q));
+  const start = readStart(g);
+  const cycle = readCycle(g);
+  const outputs = each(readOutput);
+  const next = each(readRow);
+  const holds = each(readHold);
+  const delays = each(readDelays);
+  return {
+    kind: timers.length > 0 ? 'timers' : 'holds',
+    counts: g.counts, start, cycle, outputs, next,
+    holds: timers.length > 0 ? [] : holds.map(([hold]) => hold),
+    delayed: timers.length > 0 ? [] : holds.map(([, set]) => set),
+    timers: timers.map((line, k) => ({ ...readTimer(g, line, k), delays: delays.map((sets) => sets[k]) })),
+    rest,
+    names: g.names,
+  };
+}
+
+/**
+ * What is missing, if nothing else is wrong.
+ * @param {Gathered} g
+ */
+function sayAbsent(g) {
+  const { heads, header } = g.lines;
+  const kind = header.tokens[1];
+  for (const word of HEADS) {
+    if (!heads.has(word)) g.reading.mistakes.add(header.number, kind, `the table does not say its '${word}'`);
+  }
+  for (const [line, says] of g.absent) g.reading.mistakes.add(line.number, line.tokens[1] ?? line.tokens[0], says);
+}
+
+/**
+ * Bytes that are given as such.
+ * @param {Reading} reading @param {Line[]} body
+ * @returns {Read}
+ */
+function readRaw(reading, body) {
+  /** @type {number[]} */
+  const bytes = [];
+  const origins = body.map((line) => {
+    const own = reading.raw(line);
+    bytes.push(...own);
+    return origin(bytes.length - own.length, own.length, line);
+  });
+  return { bytes: Uint8Array.from(bytes), origins };
+}
+
+/**
+ * @param {Reading} reading @param {Lines} lines
+ * @returns {Names}
+ */
+function namesOf(reading, lines) {
+  return {
+    states: readSecondNames(reading, lines.blocks.map((block) => block.line), 'state'),
+    inputs: readNames(reading, lines.heads.get('inputs'), 'input'),
+    outputs: readNames(reading, lines.heads.get('outputs'), 'output'),
+    timers: readSecondNames(reading, lines.timers, 'timer'),
+  };
+}
+
+/**
+ * A table's bytes. On mistakes they mean nothing. The names that could be read are those of the reading from then on.
+ * @param {Reading} reading @param {Line} header @param {Line[]} body @param {boolean} whole  whether every line of it could be read
+ * @returns {Read}
+ */
+export function readTable(reading, header, body, whole) {
+  const { mistakes } = reading;
+  const before = mistakes.count;
+  if (body.length > 0 && body.every((line) => keyword(line) === 'bytes')) return readRaw(reading, body);
+  const lines = sorted(reading, header, body);
+  const names = namesOf(reading, lines);
+  reading.names = names;
+  const g = new Gathered(reading, lines, names);
+  const rest = readRaw(reading, lines.rest);
+  const table = readValues(g, rest.bytes);
+  if (4 * Math.max(2, names.states.length) * names.timers.length > 65535) mistakes.add(header.number, null, 'so many timers do not fit in a field');
+  if (mistakes.count === before && whole) sayAbsent(g);
+  if (mistakes.count > before || !whole) return { bytes: new Uint8Array(), origins: [] };
+  const bytes = encodeTable(table);
+  const end = bytes.length - rest.bytes.length;
+  const behindLast = rest.origins.map((each) => ({ ...each, place: each.place + end }));
+  return { bytes, origins: [origin(0, bytes.length, header), ...g.origins, ...behindLast] };
+}
+
+/**
+ * Field by field as far as they go, as bytes.
+ * @param {Uint8Array} bytes
+ */
+function rawLines(bytes) {
+  const lines = [];
+  for (let at = 0; at < bytes.length || lines.length === 0;) {
+    const end = fieldAt(bytes, at)?.end ?? bytes.length;
+    lines.push(...bytesLines(bytes.subarray(at, end)));
+    at = Math.max(end, at + 1);
+  }
+  return lines;
+}
+
+/**
+ * @param {Table} table
+ */
+function headLines(table) {
+  const { names, counts } = table;
+  const list = (/** @type {string[]} */ of) => of.map(writtenName).join(', ');
+  const region = (/** @type {number} */ set) => members(set).map((q) => memberText(names.states, q)).join(', ') || '-';
+  return [
+    `cycle   ${table.cycle}`,
+    `inputs  ${list(names.inputs.slice(0, counts.inputs))}`.trimEnd(),
+    `outputs ${list(names.outputs.slice(0, counts.outputs))}`.trimEnd(),
+    `start   ${memberText(names.states, table.start)}`,
+    ...table.timers.map((timer, k) => `timer   ${writtenName(names.timers[k])} ${timer.length} over ${region(timer.region)}`),
+  ];
+}
+
+/**
+ * @param {Table} table @param {number} q
+ */
+function stateLines(table, q) {
+  const { names } = table;
+  const inputs = (/** @type {number} */ set) => members(set).map((i) => memberText(names.inputs, i)).join(', ');
+  const lines = ['', `state ${writtenName(names.states[q])}`, `    output ${memberText(names.outputs, table.outputs[q])}`];
+  const [hold, delayed] = [table.holds[q] ?? 0, table.delayed[q] ?? 0];
+  if (hold > 0 || delayed > 0) lines.push(`    hold ${hold}${delayed > 0 ? ` delays ${inputs(delayed)}` : ''}`);
+  for (const [k, timer] of table.timers.entries()) {
+    if (timer.delays[q] > 0) lines.push(`    ${writtenName(names.timers[k])} delays ${inputs(timer.delays[q])}`);
+  }
+  const targets = [...new Set(table.next[q])];
+  const led = targets.map((to) => table.next[q].flatMap((next, i) => (next === to ? [memberText(names.inputs, i)] : [])).join(', '));
+  const width = Math.max(0, ...led.map((names) => names.length));
+  return [...lines, ...targets.map((to, k) => `    ${led[k].padEnd(Math.min(width, 40))} -> ${memberText(names.states, to)}`)];
+}
+
+/**
+ * Any bytes as the text of a table.
+ * @param {Uint8Array} bytes @param {Names|null} [names]
+ */
+export function writeTable(bytes, names) {
+  const table = decodeTable(bytes, names);
+  const lines = table
+    ? [...headLines(table), ...table.outputs.flatMap((_, q) => stateLines(table, q)), ...(table.rest.length > 0 ? ['', ...bytesLines(table.rest)] : [])]
+    : rawLines(bytes);
+  return ['krossvil table', ...lines].join('\n') + '\n';
+}

@@ -1,0 +1,180 @@
+/**
+ * Texts of tables, stimuli and journals, both ways. A text says what the bytes are and does not judge them: the library does. Every
+ * byte string has a text that gives it back. Names stand in the table's text alone.
+ *
+ * A text begins with the word `krossvil` and what follows: table, stimulus, journal, stamped journal or short journal. One text may have
+ * several such parts.
+ */
+
+import { nameFault, readLine } from './lexer.js';
+import { Mistakes, didYouMean } from './mistakes.js';
+import { plainNames } from './names.js';
+import { FORM_WORDS, readRecords, writeRecords } from './notation-records.js';
+import { readTable, writeTable } from './notation-table.js';
+import { Reading } from './reading.js';
+
+export { showMistakes } from './mistakes.js';
+export { FORM_WORDS, recordLine } from './notation-records.js';
+
+/** @typedef {import('./types.js').Form} Form */
+/** @typedef {import('./types.js').Names} Names */
+/** @typedef {import('./types.js').Origin} Origin */
+/** @typedef {import('./types.js').Part} Part */
+/** @typedef {import('./types.js').Text} Text */
+/** @typedef {import('./lexer.js').Line} Line */
+/** @typedef {{kind: 'table'|Form, header: Line, body: Line[], spoilt: boolean}} Section  spoilt: a line of it could not be read */
+
+export const TEXT_MAX = 4000000;
+
+const MAGIC = 'krossvil';
+const BOM = '\ufeff';
+const NONE = plainNames({ states: 0, inputs: 0, outputs: 0 }, 0);
+
+/**
+ * What may follow the word `krossvil`.
+ * @type {Map<string, 'table'|Form>}
+ */
+const KINDS = new Map([['table', 'table']]);
+for (const form of /** @type {Form[]} */ (Object.keys(FORM_WORDS))) KINDS.set(FORM_WORDS[form], form);
+
+/**
+ * Does it begin with the word `krossvil`?
+ * @param {Uint8Array|string} data
+ */
+export function isText(data) {
+  const start = typeof data === 'string' ? data.slice(0, 20) : new TextDecoder().decode(data.subarray(0, 20));
+  return new RegExp(`^${BOM}?${MAGIC}(\\s|$)`).test(start);
+}
+
+/**
+ * The lines of a source, or the mistake that keeps it from being read.
+ * @param {Uint8Array|string} source
+ * @returns {{lines: string[], mistake?: string, line?: number}}
+ */
+function linesOf(source) {
+  if (source.length > TEXT_MAX) return { lines: [''], mistake: `a text of more than ${TEXT_MAX} bytes is not read` };
+  const split = (/** @type {string} */ text) => text.replace(BOM, '').split(/\r\n|\n|\r/);
+  if (typeof source === 'string') return { lines: split(source) };
+  try {
+    return { lines: split(new TextDecoder('utf-8', { fatal: true }).decode(source)) };
+  } catch {
+    const lines = split(new TextDecoder().decode(source));
+    const line = lines.findIndex((each) => each.includes('\ufffd')) + 1;
+    return { lines, mistake: 'this line is not UTF-8 text', line };
+  }
+}
+
+/**
+ * The part that a line begins; null, with a mistake, if it is none.
+ * @param {Line} header @param {Section[]} sections @param {Mistakes} mistakes
+ * @returns {Section|null}
+ */
+function sectionOf(header, sections, mistakes) {
+  const words = header.tokens.slice(1);
+  const kind = KINDS.get(words.map((token) => token.text).join(' '));
+  if (!kind) {
+    const given = words.map((token) => token.text).join(' ');
+    const says = `after 'krossvil' comes table, stimulus, journal, stamped journal or short journal${didYouMean(given, [...KINDS.keys()])}`;
+    mistakes.add(header.number, words[0] ?? header.tokens[0], says);
+    return null;
+  }
+  if (sections.some((section) => section.kind === kind)) mistakes.add(header.number, words[0], `a second ${words.map((token) => token.text).join(' ')} in one text`);
+  return { kind, header, body: [], spoilt: false };
+}
+
+/**
+ * The parts of a text, with the tokens of their lines.
+ * @param {string[]} lines @param {Mistakes} mistakes
+ * @returns {Section[]}
+ */
+function sectionsOf(lines, mistakes) {
+  /** @type {Section[]} */
+  const sections = [];
+  /** @type {Section|null|undefined} */
+  let section;
+  lines.forEach((source, k) => {
+    const { tokens, fault } = readLine(source);
+    if (fault) mistakes.add(k + 1, fault, fault.says);
+    if (fault && section) section.spoilt = true;
+    if (tokens.length === 0 || fault) return;
+    const line = { number: k + 1, tokens };
+    if (tokens[0].kind === 'word' && tokens[0].text === MAGIC) {
+      section = sectionOf(line, sections, mistakes);
+      if (section) sections.push(section);
+    } else if (section) {
+      section.body.push(line);
+    } else if (section === undefined) {
+      mistakes.once('beginning', k + 1, tokens[0], 'a text begins with the word krossvil and what follows, as in: krossvil table');
+    }
+  });
+  return sections;
+}
+
+/**
+ * @param {Section} section @param {Reading} reading
+ * @returns {Part|null}  null if it has a mistake
+ */
+function partOf(section, reading) {
+  const { kind, header, body, spoilt } = section;
+  const before = reading.mistakes.count;
+  if (kind === 'table' && spoilt) reading.distrust();
+  const { bytes, origins } = kind === 'table' ? readTable(reading, header, body, !spoilt) : readRecords(reading, body, kind);
+  return reading.mistakes.count > before || spoilt ? null : { kind, line: header.number, bytes, origins };
+}
+
+/**
+ * Reads all parts of a text. Its own table's names are used, or else those given.
+ * @param {Uint8Array|string} source @param {Names|null} [names]
+ * @returns {Text}
+ */
+export function readText(source, names = null) {
+  const mistakes = new Mistakes();
+  const { lines, mistake, line } = linesOf(source);
+  if (mistake) {
+    mistakes.add(line ?? 1, null, mistake);
+    return { parts: [], names, mistakes: mistakes.sorted(), lines };
+  }
+  const sections = sectionsOf(lines, mistakes);
+  const reading = new Reading(mistakes, names);
+  const tableFirst = [...sections].sort((a, b) => Number(b.kind === 'table') - Number(a.kind === 'table'));
+  const parts = tableFirst.map((section) => partOf(section, reading)).filter((part) => part !== null);
+  if (sections.length === 0 && mistakes.count === 0) mistakes.add(1, null, 'there is nothing in this text; it begins as in: krossvil table');
+  return { parts: /** @type {Part[]} */ (parts), names: reading.names, mistakes: mistakes.sorted(), lines };
+}
+
+/**
+ * Can every name stand in a text, and no two be taken for each other?
+ * @param {Names|null|undefined} names
+ */
+function writable(names) {
+  if (!names) return false;
+  return [names.states, names.inputs, names.outputs, names.timers].every((list) => new Set(list).size === list.length
+    && list.every((name) => nameFault(name) === null && name === name.normalize('NFC')));
+}
+
+/**
+ * Any bytes as the text of a table. Names that do not fit it, or cannot stand in a text, are not used.
+ * @param {Uint8Array} bytes @param {Names|null} [names]
+ */
+export function tableText(bytes, names) {
+  return writeTable(bytes, writable(names) ? names : null);
+}
+
+/**
+ * Any bytes as the text of a journal or a stimulus. What has no name is written as its number.
+ * @param {Uint8Array} bytes @param {Form} form @param {Names|null} [names] @param {Map<number, string>} [notes]  comments by place
+ */
+export function recordsText(bytes, form, names, notes) {
+  return writeRecords(bytes, form, names && writable(names) ? names : NONE, notes);
+}
+
+/**
+ * The smallest piece of the text that gave the byte at a place. Behind the last byte it is the last line.
+ * @param {Part} part @param {number} place
+ * @returns {Origin|null}
+ */
+export function originAt(part, place) {
+  const at = Math.min(place, part.bytes.length - 1);
+  const around = part.origins.filter((origin) => origin.place <= at && at < origin.place + origin.length);
+  return around.reduce((best, each) => (best && best.length < each.length ? best : each), /** @type {Origin|null} */ (null));
+}
