@@ -16,7 +16,7 @@
 export const NAME_MAX = 64;
 
 const WORD = '[\\p{L}\\p{M}\\p{N}_.]+(?:-[\\p{L}\\p{M}\\p{N}_.]+)*';
-const TOKEN = new RegExp(`(?<name>"[^"]*")|(?<arrow>->|→)|(?<comma>,)|(?<gap>\\+[0-9]+)|(?<word>${WORD})|(?<dash>-)`, 'uy');
+const TOKEN = new RegExp(`(?<name>"[^"]*")|(?<arrow>->|→)|(?<comma>,)|(?<gap>\\+[0-9]+)|(?<word>${WORD}|-[0-9]+)|(?<dash>-)`, 'uy');
 const BARE = /^[\p{L}_][\p{L}\p{M}\p{N}_.]*(?:-[\p{L}\p{M}\p{N}_.]+)*$/u;
 
 /** What cannot be seen: control characters, those that turn the direction of writing, those of no width, separators of lines. */
@@ -102,7 +102,6 @@ export function readLine(line) {
   /** @type {Token[]} */
   const tokens = [];
   const hidden = hiddenFault(line);
-  if (hidden) return { tokens, fault: hidden };
   for (let at = 0; at < line.length;) {
     const rest = line.slice(at);
     const spaces = rest.length - rest.trimStart().length;
@@ -110,9 +109,9 @@ export function readLine(line) {
     if (at >= line.length || line[at] === '#') break;
     TOKEN.lastIndex = at;
     const match = TOKEN.exec(line);
-    if (!match) return { tokens, fault: strange(line, at) };
+    if (!match) return { tokens, fault: hidden ?? strange(line, at) };
     tokens.push(tokenOf(match));
     at += match[0].length;
   }
-  return { tokens, fault: null };
+  return { tokens, fault: hidden };
 }

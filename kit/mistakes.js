@@ -5,17 +5,17 @@
 
 const SHOWN = 10;
 
-/** The mistakes of one text, gathered instead of stopping at the first. */
+/** The mistakes of one text, gathered instead of stopping at the first. Of each line the first is kept: others often follow from it. */
 export class Mistakes {
   constructor() {
     /** @type {Mistake[]} */
     this.found = [];
     /** @type {Set<string>} */
     this.said = new Set();
-  }
-
-  get count() {
-    return this.found.length;
+    /** @type {Set<number>} */
+    this.lines = new Set();
+    /** How many were made, those that are not kept included: so a part with a mistake shows by it. */
+    this.count = 0;
   }
 
   /**
@@ -23,17 +23,33 @@ export class Mistakes {
    * @param {string} says
    */
   add(line, at, says) {
-    this.found.push({ line, column: at?.column ?? 1, width: at?.width ?? 1, says });
+    this.count++;
+    if (!this.lines.has(line)) this.found.push({ line, column: at?.column ?? 1, width: at?.width ?? 1, says });
+    this.lines.add(line);
   }
 
   /**
-   * One cause, one mistake: the same word that is unknown in many places is said once.
+   * One cause, one mistake: what is wrong in many places for one reason is said once.
    * @param {string} cause @param {number} line @param {Token|null|undefined} at @param {string} says
    */
   once(cause, line, at, says) {
-    if (this.said.has(cause)) return;
+    if (this.said.has(cause)) this.unsaid();
+    else this.add(line, at, says);
     this.said.add(cause);
-    this.add(line, at, says);
+  }
+
+  /** A mistake that follows from another: the part has it, but nothing is said. */
+  unsaid() {
+    this.count++;
+  }
+
+  /**
+   * Something is missing; it is said at the line that it belongs to, beside other things that are missing there.
+   * @param {number} line @param {Token} at @param {string} says
+   */
+  missing(line, at, says) {
+    this.count++;
+    this.found.push({ line, column: at.column, width: at.width, says });
   }
 
   /** In the order of the text. */

@@ -60,9 +60,9 @@ function readTime(reading, line, form) {
   const most = 256 ** FORMS[form].width - 1;
   if (first.kind === (form === 'short' ? 'gap' : 'number')) return reading.number(line, first, most, `a ${timeWord(form)}`);
   if (form === 'short' && first.kind === 'number') {
-    mistakes.add(line.number, first, `a short journal has gaps in the place of times, written with a plus sign: +${first.text}`);
+    mistakes.once('no gap', line.number, first, `a short journal has gaps in the place of times, written with a plus sign: +${first.text}`);
   } else if (first.kind === 'gap') {
-    mistakes.add(line.number, first, `a gap; only a short journal has gaps, and begins with: krossvil short journal`);
+    mistakes.once('gap', line.number, first, 'this is a gap; a journal of gaps begins with: krossvil short journal');
   } else if (TIMED.includes(first.text) && second) {
     mistakes.add(line.number, first, `the ${timeWord(form)} comes first: ${form === 'short' ? '+' : ''}${second.text} ${first.text}`);
   } else {

@@ -377,9 +377,9 @@ function sayAbsent(g) {
   const { heads, header } = g.lines;
   const kind = header.tokens[1];
   for (const word of HEADS) {
-    if (!heads.has(word)) g.reading.mistakes.add(header.number, kind, `the table does not say its '${word}'`);
+    if (!heads.has(word)) g.reading.mistakes.missing(header.number, kind, `the table does not say its '${word}'`);
   }
-  for (const [line, says] of g.absent) g.reading.mistakes.add(line.number, line.tokens[1] ?? line.tokens[0], says);
+  for (const [line, says] of g.absent) g.reading.mistakes.missing(line.number, line.tokens[1] ?? line.tokens[0], says);
 }
 
 /**

@@ -96,7 +96,7 @@ function sectionsOf(lines, mistakes) {
     const { tokens, fault } = readLine(source);
     if (fault) mistakes.add(k + 1, fault, fault.says);
     if (fault && section) section.spoilt = true;
-    if (tokens.length === 0 || fault) return;
+    if (tokens.length === 0) return;
     const line = { number: k + 1, tokens };
     if (tokens[0].kind === 'word' && tokens[0].text === MAGIC) {
       section = sectionOf(line, sections, mistakes);
@@ -117,7 +117,6 @@ function sectionsOf(lines, mistakes) {
 function partOf(section, reading) {
   const { kind, header, body, spoilt } = section;
   const before = reading.mistakes.count;
-  if (kind === 'table' && spoilt) reading.distrust();
   const { bytes, origins } = kind === 'table' ? readTable(reading, header, body, !spoilt) : readRecords(reading, body, kind);
   return reading.mistakes.count > before || spoilt ? null : { kind, line: header.number, bytes, origins };
 }
@@ -136,6 +135,7 @@ export function readText(source, names = null) {
   }
   const sections = sectionsOf(lines, mistakes);
   const reading = new Reading(mistakes, names);
+  if (mistakes.count > 0) reading.distrust();
   const tableFirst = [...sections].sort((a, b) => Number(b.kind === 'table') - Number(a.kind === 'table'));
   const parts = tableFirst.map((section) => partOf(section, reading)).filter((part) => part !== null);
   if (sections.length === 0 && mistakes.count === 0) mistakes.add(1, null, 'there is nothing in this text; it begins as in: krossvil table');

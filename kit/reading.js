@@ -27,7 +27,7 @@ export class Reading {
     this.unsound = new Set();
   }
 
-  /** A line of the table could not be read: what is unknown may have stood there. */
+  /** Some line could not be read: what is unknown may have stood there. */
   distrust() {
     this.unsound = new Set(['state', 'input', 'output', 'timer']);
   }
@@ -83,7 +83,10 @@ export class Reading {
    * @param {Line} line @param {Token} token @param {What} what
    */
   unknown(line, token, what) {
-    if (this.unsound.has(what)) return;
+    if (this.unsound.has(what)) {
+      this.mistakes.unsaid();
+      return;
+    }
     if (!this.names && what !== 'verdict') {
       const says = `'${token.text}' is a name, and there is no table's text to take names from; a number stands for itself`;
       this.mistakes.once('names', line.number, token, says);
