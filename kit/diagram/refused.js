@@ -1,0 +1,129 @@
+/**
+ * The refused record: a red ring, a line through all lanes, and what it says beside what the machine has.
+ */
+import { circle, group, line, path, text } from '../svg.js';
+import { widthOf } from '../text-width.js';
+import { nameOf } from '../name-of.js';
+import { thousands } from '../names.js';
+import { ownValue } from '../trace.js';
+import { drawOnPlate } from './labels.js';
+import { sides } from './records.js';
+import { refusedStep, timeOf, xOf, yOf } from './view.js';
+
+/** @typedef {import('./view.js').View} View */
+/** @typedef {import('../types.js').Step} Step */
+
+/** What is wrong, in a word or two, where the record names nothing that the machine has otherwise. */
+const IN_SHORT = new Map([
+  [19, 'too long'], [20, 'breaks off'], [21, 'no such field'], [22, 'not its place'], [23, 'out of range'], [24, 'goes back'], [25, 'too late'],
+  [26, 'out of turn'], [27, 'too soon'],
+]);
+
+/**
+ * @param {View} view
+ * @param {Step} step
+ * @returns {string[]}   what it says, then what is
+ */
+export function inShort({ trace, stretch }, step) {
+  const own = ownValue(trace, step);
+  const { kind, value, time } = step.record;
+  const lists = { poll: trace.names.inputs, test: ['held', 'free'], tick: trace.names.states };
+  if (own !== null && (kind === 'poll' || kind === 'test' || kind === 'tick')) return [`says ${nameOf(lists[kind], value)}`, `is ${nameOf(lists[kind], own)}`];
+  const wrong = IN_SHORT.get(trace.refused?.number ?? 0) ?? 'refused';
+  if (kind === 'bytes' || stretch.far) return [wrong];
+  return kind === 'input' ? [wrong, 'opening'] : [wrong, `${kind} at ${thousands(time)}`];
+}
+
+/**
+ * The words at the ring are chosen before those at other records.
+ * @param {View} view
+ * @param {import('./labels.js').Labels} labels
+ */
+export function refusedWords(view, labels) {
+  const step = refusedStep(view);
+  if (step === null) return null;
+  const { sizes, theme, lanes } = view;
+  const [x, y, r] = [xOf(view, step), yOf(view, step), sizes.ring];
+  const [says, is] = inShort(view, step);
+  const first = { y: y + (is === undefined ? sizes.text * 0.36 : -1), text: says, size: sizes.text, fill: theme.red, bold: true };
+  const second = { y: y + sizes.text * 1.1, text: is ?? '', size: sizes.small + 0.5, fill: theme.ink };
+  const words = is === undefined ? [first] : [first, second];
+  const [right, left] = sides(view, step, r + 7, words);
+  const chosen = labels.choose([right, left, stacked(words, x, y + r + 4), stacked(words, x, y - r - 6 - sizes.text * 1.15 * words.length)]);
+  labels.block(x - r - 2, y - r - 2, 2 * r + 4, 2 * r + 4);
+  labels.block(x - 2, lanes.band.y, 4, lanes.band.height);
+  const fallback = x > view.width / 2 ? left : right;
+  return (chosen.length > 0 ? chosen : fallback).map((word) => drawOnPlate(word, theme.paper));
+}
+
+/**
+ * Words below each other, around a place; `y` is where the first begins.
+ * @param {{text: string, size: number, fill: string, bold?: boolean}[]} words
+ * @param {number} x
+ * @param {number} y
+ * @returns {import('./labels.js').Word[]}
+ */
+function stacked(words, x, y) {
+  return words.map((word, k) => ({ ...word, x, y: y + word.size * (0.85 + 1.15 * k), anchor: 'middle' }));
+}
+
+/**
+ * The line through all lanes, down to `foot`, and the record's time on the axis.
+ * @param {View} view
+ * @param {number} foot
+ */
+export function refusedLine(view, foot) {
+  const step = refusedStep(view);
+  if (step === null) return null;
+  const { theme, lanes, sizes, width } = view;
+  const x = xOf(view, step);
+  const time = thousands(timeOf(view, step));
+  const half = widthOf(time, sizes.small, true) / 2;
+  const axisX = Math.min(Math.max(x, sizes.left + half - 8), width - half - 4);
+  return group({ class: 'refusal-line' },
+    line(x, lanes.top, x, foot, theme.red, 1.8, { 'stroke-dasharray': '6 4' }),
+    text(axisX, lanes.axis, time, { size: sizes.small + 0.5, fill: theme.red, anchor: 'middle', bold: true }));
+}
+
+/**
+ * @param {View} view
+ * @param {import('../svg.js').Content} words
+ */
+export function refusedMark(view, words) {
+  const step = refusedStep(view);
+  if (step === null) return null;
+  const { options, theme, sizes } = view;
+  const later = options.step && step.number > (options.selected ?? Infinity);
+  const ring = { fill: 'none', stroke: theme.red, 'stroke-width': 3.4, class: 'refused-record', 'data-record': step.number };
+  return group({ class: 'refusal', opacity: later ? 0.3 : null }, circle(xOf(view, step), yOf(view, step), sizes.ring, ring), words);
+}
+
+/**
+ * Where the axis is broken: two slanted lines, and nothing between them and the record far away.
+ * @param {View} view
+ */
+export function axisBreak({ stretch, end, lanes, theme }) {
+  if (!stretch.far) return null;
+  const x = end + 10;
+  const slant = (/** @type {number} */ at) => `M${at - 5},${lanes.top + 14}l10,-14M${at - 5},${lanes.bottom}l10,-14`;
+  return path(slant(x) + slant(x + 8), { stroke: theme.quiet, 'stroke-width': 2.2, fill: 'none', class: 'break' });
+}
+
+/**
+ * Until when a record could have come, where one came too late.
+ * @param {View} view
+ */
+export function cycleLimit(view) {
+  const { trace, lanes, theme, sizes, x, stretch } = view;
+  const step = refusedStep(view);
+  const start = step?.before?.cycleStart;
+  if (trace.refused?.number !== 25 || start === undefined) return null;
+  const limit = start + trace.table.cycle;
+  if (limit > stretch.to || start > stretch.to) return null;
+  const [a, b] = [x(Math.max(start, stretch.from)), x(limit)];
+  const words = [`at most ${thousands(trace.table.cycle)}: until ${thousands(limit)}`, `until ${thousands(limit)}`];
+  const word = words.find((long) => widthOf(long, sizes.small, true) < b - a - 8) ?? '';
+  return group({ class: 'limit' },
+    path(`M${a + 4},${lanes.cycle + 8}H${b}M${b},${lanes.cycle - 8}v24`, { stroke: theme.red, 'stroke-width': 2, fill: 'none' }),
+    text((a + b) / 2, lanes.cycle + 2, word, { size: sizes.small, fill: theme.red, anchor: 'middle', bold: true }));
+}
