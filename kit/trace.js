@@ -3,7 +3,7 @@
  * carry each polled input, verdict and state. Only instants are remembered.
  */
 
-import { decodeRecords, decodeTable, formOf } from './fields.js';
+import { decodeRecords, decodeTable, formOf, recordBytes } from './fields.js';
 import { has } from './sets.js';
 
 /** @typedef {import('./types.js').Table} Table */
@@ -106,7 +106,7 @@ function stepsOf(table, records, stop) {
 
 /**
  * The record that is missing where the bytes end before the end field.
- * @param {JournalRecord[]} records @param {number} place @param {JournalForm} form
+ * @param {JournalRecord[]} records @param {number} place @param {import('./types.js').Form} form
  * @returns {JournalRecord}
  */
 function missingRecord(records, place, form) {
@@ -132,6 +132,39 @@ export function traceJournal(library, given) {
   const stop = verdict.at === null ? null : records.findIndex((record) => record.place === verdict.at);
   const steps = stepsOf(table, records, stop ?? records.length);
   return { table, names: table.names, tableBytes: given.table, journal: given.journal, form, steps, stop, ...verdict };
+}
+
+/**
+ * The journal of the records of a stimulus before a place. What was accepted so far may always end.
+ * @param {Library} library @param {Uint8Array} table @param {Uint8Array} stimulus @param {number} place
+ */
+function journalUpTo(library, table, stimulus, place) {
+  const kept = stimulus.subarray(0, place);
+  const records = decodeRecords(kept, 'stimulus');
+  const last = records[records.length - 1];
+  if (last?.kind === 'end') return library.run(table, kept);
+  return library.run(table, Uint8Array.from([...kept, ...recordBytes('stimulus', 'end', last?.time ?? 0, 0)]));
+}
+
+/**
+ * A stimulus that the runtime refuses: the records before the refusal are run, and their journal shows the machine. Null if the table is
+ * refused, or if the stimulus is not: then its journal has a trace.
+ * @param {Library} library
+ * @param {{table: Uint8Array, stimulus: Uint8Array, names?: import('./types.js').Names|null}} given
+ * @returns {Trace|null}
+ */
+export function traceStimulus(library, { table, stimulus, names }) {
+  const answer = library.run(table, stimulus);
+  const decoded = library.checkTable(table).ok ? decodeTable(table, names) : null;
+  if (!decoded || answer.ok) return null;
+  const verdict = { answer: null, refused: { number: answer.number, place: answer.place }, at: answer.place, long: null };
+  const records = decodeRecords(stimulus, 'stimulus');
+  if (answer.place === stimulus.length) records.push(missingRecord(records, answer.place, 'stimulus'));
+  const stop = records.findIndex((record) => record.place === answer.place);
+  const ran = journalUpTo(library, table, stimulus, answer.place);
+  const shown = ran.ok ? decodeRecords(ran.bytes, 'journal') : [];
+  const steps = stepsOf(decoded, records.map((record, k) => (k < stop ? { ...record, value: shown[k]?.value ?? null } : record)), stop);
+  return { table: decoded, names: decoded.names, tableBytes: table, journal: stimulus, form: 'stimulus', steps, stop, ...verdict };
 }
 
 /**

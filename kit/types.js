@@ -121,7 +121,7 @@
  * @property {Names} names
  * @property {Uint8Array} tableBytes
  * @property {Uint8Array} journal     the bytes given
- * @property {'journal'|'stamped'|'short'} form
+ * @property {Form} form             `stimulus` only from traceStimulus
  * @property {Uint8Array|null} long   of a stamped journal that could be read, its long form; else null
  * @property {Step[]} steps
  * @property {Acceptance|null} answer
@@ -143,9 +143,13 @@
  * trace.js exports
  *   traceJournal(library: Library, given: {table: Uint8Array, journal: Uint8Array, form?: Form, names?: Names}): Trace | null
  *       null if the table is refused: ask library.checkTable. Without `form` it is the one that the first byte shows.
+ *   traceStimulus(library: Library, given: {table: Uint8Array, stimulus: Uint8Array, names?: Names}): Trace | null
+ *       only of a stimulus that the runtime refuses; of any other trace the journal that library.run gives.
+ *       Its records before the refusal have the values that the runtime found.
  *   accepted(trace: Trace): Step[]                  the steps that were accepted
  *   clocks(table: Table, machine: Machine): Clock[] what can hold a test in the machine's state
  *   holding(table: Table, machine: Machine, time: number): Clock[]   those that hold a test of the polled input at that time
+ *   freeFrom(table: Table, machine: Machine, time: number): number   the first time from then on at which none of them holds
  *   left(trace: Trace, step: Step): number          ticks left at a test; 0 if it is free
  *   visits(trace: Trace): Visit[]                   the states in the order in which they were entered
  *   regionVisits(trace: Trace, timer: number): Span[]    when a timer's region was entered and left

@@ -1,0 +1,104 @@
+/** Answers that are no refusals, in sentences, with the names of the case. The numbers are the library's. */
+
+import { counted, listed, quoted, thousands } from './names.js';
+import { members } from './sets.js';
+
+/** @typedef {import('./types.js').Table} Table */
+/** @typedef {import('./types.js').Acceptance} Acceptance */
+/** @typedef {import('./types.js').Explanation} Explanation */
+
+/**
+ * @param {string[]} names @param {number} set
+ */
+function named(names, set) {
+  return listed(members(set).map((member) => quoted(names, member))) || 'none';
+}
+
+/**
+ * The line that the program `checkjournal` prints.
+ * @param {Acceptance} answer
+ */
+export function acceptanceLine(answer) {
+  const { end, cycles, moves, state, output, left, longest } = answer;
+  return `accepted end=${end} cycles=${cycles} moves=${moves} state=${state} output=${output} left=${left} longest=${longest}`;
+}
+
+/**
+ * @param {{number: number, place: number}} refusal
+ */
+export function refusalLine({ number, place }) {
+  return `refused ${number} at ${place}`;
+}
+
+/**
+ * @param {Table} table @param {Acceptance} answer
+ * @returns {string[]}
+ */
+export function sayAcceptance({ names, cycle }, answer) {
+  const { end, cycles, moves, state, output, left, longest } = answer;
+  const sentences = [`The journal is a run of this table. It ends at ${thousands(end)} in state ${quoted(names.states, state)} with output `
+    + `${quoted(names.outputs, output)}, after ${counted(cycles, 'cycle')} and ${counted(moves, 'move')}.`];
+  if (cycles > 0) sentences.push(`Its longest cycle took ${thousands(longest)}, of at most ${thousands(cycle)}.`);
+  if (left > 0) sentences.push(`At a held test there were at most ${counted(left, 'tick')} left.`);
+  return sentences;
+}
+
+/**
+ * @param {Table} table @param {{states: number, inputs: number, moves?: number}} question
+ * @param {{time: number, target: number, tight?: number}} answer
+ * @returns {string[]}
+ */
+export function sayReaction({ names }, question, answer) {
+  const [states, inputs, target] = [named(names.states, question.states), named(names.inputs, question.inputs), named(names.states, answer.target)];
+  const over = question.moves === undefined ? '' : ` over ${counted(question.moves, 'move')}`;
+  const sentences = [`As long as the state is one of ${states} and the input one of ${inputs}, it takes at most ${thousands(answer.time)}${over} `
+    + `until the state is one of ${target}.`];
+  if (answer.target === 0) sentences.push('No state is left to be in: this never lasts so long.');
+  if (answer.tight !== undefined) sentences.push(`In whole units ${thousands(answer.tight)} is enough.`);
+  return sentences;
+}
+
+/**
+ * A worst path, as: 'busy' under 'no_train', 'idle'.
+ * @param {Table} table @param {number[]} path  state, input, state ..
+ */
+export function sayPath({ names }, path) {
+  if (path.length === 0) return 'There is no state outside the target to wait in.';
+  const steps = path.map((member, k) => (k % 2 === 0 ? quoted(names.states, member) : `under ${quoted(names.inputs, member)} to`));
+  return `The longest way: ${steps.join(' ')}.`;
+}
+
+/**
+ * @param {{kept: number, dropped: number, number: number, place: number}} answer @param {Explanation|null} why  of the refusal that stopped it
+ * @returns {string[]}
+ */
+export function saySalvage({ kept, dropped, number, place }, why) {
+  if (number === 0) return ['The journal is accepted as it is, and comes back unchanged.'];
+  const sentences = [`The first ${counted(kept, 'byte')} are kept, up to ${kept === 4 ? 'the opening' : 'the last sound tick'}, and an end is added; `
+    + `${counted(dropped, 'byte')} ${dropped === 1 ? 'is' : 'are'} dropped.`, `It was stopped by refusal ${number} at ${place}.`];
+  return why ? [...sentences, ...why.sentences] : sentences;
+}
+
+/**
+ * @param {number} changed
+ * @returns {string[]}
+ */
+export function sayConverted(changed) {
+  if (changed === 0) return ['The table passes as it is, and comes back unchanged.'];
+  return [`In ${counted(changed, 'state')} without a hold the delayed inputs were taken out, which never had an effect.`];
+}
+
+/**
+ * Where the time went, a sentence for each state.
+ * @param {Table} table @param {{journals: number, dwell: number[], pairs: number[][], entries: number[]}} report
+ * @returns {string[]}
+ */
+export function sayDwell({ names }, { journals, dwell, pairs, entries }) {
+  const all = dwell.reduce((sum, each) => sum + each, 0);
+  const share = (/** @type {number} */ slots) => (all === 0 ? '0.0' : (100 * slots / all).toFixed(1));
+  const states = dwell.map((slots, q) => {
+    const by = listed(pairs[q].flatMap((each, a) => (each > 0 ? [`${thousands(each)} with ${quoted(names.inputs, a)}`] : [])));
+    return `State ${quoted(names.states, q)}: ${thousands(slots)} of the time (${share(slots)} %)${by ? `, ${by}` : ''}; entered ${counted(entries[q], 'time')}.`;
+  });
+  return [`${counted(journals, 'journal')} of ${thousands(all)} in all.`, ...states];
+}

@@ -1,0 +1,324 @@
+/** Why a journal of any form, or a stimulus, is refused, in sentences. The number and the place are the library's. */
+
+import { FORMS, kindOf, numberAt, valueLength } from './fields.js';
+import { counted, listed, quoted, thousands } from './names.js';
+import { FORM_WORDS } from './notation-records.js';
+import { has } from './sets.js';
+import { slipOfTest, slipOfTick } from './slips.js';
+import { accepted, clocks, freeFrom, holding, ownValue } from './trace.js';
+
+/** @typedef {import('./types.js').Trace} Trace */
+/** @typedef {import('./types.js').Step} Step */
+/** @typedef {import('./types.js').Clock} Clock */
+/** @typedef {import('./types.js').Machine} Machine */
+/** @typedef {import('./types.js').Record} JournalRecord */
+/** @typedef {import('./types.js').Form} Form */
+/** @typedef {import('./types.js').Explanation} Explanation */
+/** @typedef {{sentences: string[], slip?: {name: import('./types.js').SlipName, says: string}|null}} Said */
+/** @typedef {{trace: Trace, step: Step, record: JournalRecord, machine: Machine}} Case  the machine is that before the refused record */
+
+const LATEST = 2000000000;
+const WAITS = ['waits for its poll', 'has polled and waits for its test', 'has tested (held) and waits for its tick',
+  'has tested (free) and waits for its tick'];
+const NEXT = ['the poll', 'the test', 'the tick', 'the tick'];
+
+/**
+ * @param {JournalRecord} record
+ */
+function called(record) {
+  if (record.kind === 'bytes') return `the field at byte ${record.place}`;
+  return record.kind === 'input' ? 'the opening' : `the ${record.kind} at ${record.time}`;
+}
+
+/**
+ * @param {string} words
+ */
+function capital(words) {
+  return words[0].toUpperCase() + words.slice(1);
+}
+
+/**
+ * @param {Trace} trace
+ */
+function formWord(trace) {
+  return FORM_WORDS[trace.form];
+}
+
+/**
+ * @param {Case} c
+ * @returns {Said}
+ */
+function explainTooLong({ trace }) {
+  const { max } = FORMS[trace.form];
+  const length = trace.journal.length;
+  const sentences = [`The ${formWord(trace)} has more than ${thousands(max)} bytes, and so many at most are read.`];
+  return { sentences: length > max + 1 ? [`The ${formWord(trace)} has ${thousands(length)} bytes; at most ${thousands(max)} are read.`] : sentences };
+}
+
+/**
+ * @param {Case} c
+ * @returns {Said}
+ */
+function explainTorn({ trace, record }) {
+  const word = formWord(trace);
+  const left = trace.journal.length - record.place;
+  const is = left === 1 ? 'is' : 'are';
+  const torn = left > 0
+    ? `The ${word} stops in the middle of a field: at byte ${record.place} ${counted(left, 'byte')} of it ${is} there.`
+    : trace.journal.length === 0 ? `The ${word} is empty.` : `The ${word} stops after byte ${record.place - 1} without an end field.`;
+  const ticks = accepted(trace).filter((step) => step.record.kind === 'tick');
+  const last = ticks[ticks.length - 1];
+  if (accepted(trace).length === 0) return { sentences: [torn] };
+  const sound = last
+    ? `All before it is sound; the last whole cycle ended with the tick at ${last.record.time}.`
+    : 'All before it is sound, but there is no whole cycle in it.';
+  return { sentences: [torn, sound] };
+}
+
+/**
+ * What bytes with this tag, or this length, may belong to instead.
+ * @param {Form} form @param {number} tag @param {number} length
+ */
+function otherForm(form, tag, length) {
+  const others = /** @type {Form[]} */ (['journal', 'stamped', 'short', 'stimulus']).filter((other) => other !== form);
+  const other = others.find((each) => {
+    const kind = kindOf(each, tag);
+    return kind !== null && kind !== 'input' && valueLength(each, kind) === length;
+  }) ?? others.find((each) => kindOf(each, tag) === 'input' && kindOf(form, tag) === null);
+  return other ? [`It looks like one of a ${FORM_WORDS[other]}: was that given in place of the ${FORM_WORDS[form]}?`] : [];
+}
+
+/**
+ * @param {Case} c
+ * @returns {Said}
+ */
+function explainUnknown({ trace, record }) {
+  const { form, journal } = trace;
+  const tag = journal[record.place];
+  const length = numberAt(journal, record.place + 1, 2);
+  const kind = kindOf(form, tag);
+  const hex = tag.toString(16).padStart(2, '0');
+  const says = kind
+    ? `The field at byte ${record.place} is ${kind === 'input' || kind === 'end' ? `the ${kind === 'input' ? 'opening' : 'end'}` : `a ${kind}`}, by its tag `
+      + `${hex}, but has length ${length}; here its length is ${valueLength(form, kind)}.`
+    : `The field at byte ${record.place} has tag ${hex}, which no field of a ${formWord(trace)} has.`;
+  return { sentences: [says, ...otherForm(form, tag, length)] };
+}
+
+/**
+ * @param {Case} c
+ * @returns {Said}
+ */
+function explainOutOfPlace({ trace, step, record }) {
+  const word = formWord(trace);
+  if (step.number === 0) return { sentences: [`A ${word} opens with the input at time 0; this one begins with ${called(record)}.`] };
+  if (trace.steps[step.number - 1].record.kind === 'end') {
+    const more = trace.journal.length - record.place;
+    return { sentences: [`The ${word} ends before byte ${record.place}, but ${counted(more, 'byte')} ${more === 1 ? 'follows' : 'follow'}.`] };
+  }
+  return { sentences: [`A second opening stands at byte ${record.place}. The input at time 0 is given once, at the beginning; later inputs are changes.`] };
+}
+
+/**
+ * @param {Case} c
+ * @returns {Said}
+ */
+function explainRange({ trace, record }) {
+  const { states, inputs } = trace.table.counts;
+  const numbered = (/** @type {number} */ count, /** @type {string} */ what) => `names ${what} ${record.value}, but the ${counted(count, what)} `
+    + `${count === 1 ? 'is numbered 0' : `are numbered 0 to ${count - 1}`}`;
+  if (record.time > LATEST) return { sentences: [`${capital(called(record))} is too late: times go up to ${thousands(LATEST)}.`] };
+  const says = record.kind === 'test' ? `has the verdict ${record.value}; a verdict is 0, held, or 1, free`
+    : record.kind === 'tick' ? numbered(states, 'state') : numbered(inputs, 'input');
+  return { sentences: [`${capital(called(record))} ${says}.`] };
+}
+
+/**
+ * @param {Case} c
+ * @returns {Said}
+ */
+function explainEarlier({ trace, step, record }) {
+  const before = trace.steps[step.number - 1].record;
+  return { sentences: [`${capital(called(record))} stands after ${called(before)}, which is later. Times never fall from one record to the next.`] };
+}
+
+/**
+ * @param {Case} c
+ * @returns {Said}
+ */
+function explainLate({ trace, record, machine }) {
+  const { cycle } = trace.table;
+  const latest = machine.cycleStart + cycle;
+  const sentences = [`${capital(called(record))} is too late: the cycle began at ${machine.cycleStart} and lasts at most ${cycle}, so no record of it, `
+    + `be it a change or the end, is later than ${latest}.`];
+  if (record.kind !== 'tick') sentences.push(`A tick at ${latest} or before would have begun a new cycle.`);
+  return { sentences };
+}
+
+/**
+ * @param {Case} c
+ * @returns {Said}
+ */
+function explainTurn({ record, machine }) {
+  return { sentences: [`${capital(called(record))} comes out of turn: the controller ${WAITS[machine.phase]}.`,
+    `A cycle is poll, test, tick, once each and in this order; next comes ${NEXT[machine.phase]}.`] };
+}
+
+/**
+ * @param {Case} c
+ * @returns {Said}
+ */
+function explainPollTime({ trace, record, machine }) {
+  const { change, cycleStart, present } = machine;
+  const first = Math.max(change, cycleStart) + 1;
+  const latest = cycleStart + trace.table.cycle;
+  const room = first <= latest ? `The first poll that can come is at ${first}.`
+    : `In this cycle, which lasts until ${latest} at most, no poll can come any more.`;
+  if (record.time <= change && change >= cycleStart && change > 0) {
+    return { sentences: [`The poll at ${record.time} is not later than the last change of the input, which was at ${change}.`,
+      `Input ${quoted(trace.names.inputs, present)} stands from ${change} on, and a poll sees only what stood before it. ${room}`] };
+  }
+  return { sentences: [`The poll at ${record.time} is not later than the start of its cycle, ${cycleStart}. ${room}`] };
+}
+
+/**
+ * @param {Case} c
+ * @returns {Said}
+ */
+function explainPolled({ trace, record, machine }) {
+  const { inputs } = trace.names;
+  const said = quoted(inputs, record.value ?? 0);
+  const since = machine.change === 0 ? 'from the beginning on' : `since ${machine.change}`;
+  const sentences = [`The poll at ${record.time} says that it saw ${said}, but ${since} the input is ${quoted(inputs, machine.present)}.`];
+  const stood = accepted(trace).some((step) => step.before?.present === record.value);
+  if (stood) sentences.push(`Input ${said} was over at ${machine.change}: what stands at no poll is never seen.`);
+  return { sentences };
+}
+
+/**
+ * @param {Case} c
+ * @returns {Said}
+ */
+function explainTicked({ trace, step, record, machine }) {
+  const { states, inputs } = trace.names;
+  const [said, here, polled] = [quoted(states, record.value ?? 0), quoted(states, machine.state), quoted(inputs, machine.polled)];
+  const slip = slipOfTick(trace, step);
+  if (machine.phase === 2) return { sentences: [`The tick at ${record.time} says state ${said}, but the test before it was held, so state ${here} stays.`], slip };
+  const led = quoted(states, ownValue(trace, step) ?? 0);
+  const sentences = [`The tick at ${record.time} says state ${said}, but from ${here} the polled input ${polled} leads to ${led}.`];
+  if (machine.present !== machine.polled && trace.table.next[machine.state][machine.present] === record.value) {
+    sentences.push(`${said} is where ${quoted(inputs, machine.present)} leads, the input at the sensor; but it came at ${machine.change}, and the poll was `
+      + `at ${machine.polledAt}. What counts is what was polled.`);
+  }
+  return { sentences, slip };
+}
+
+/**
+ * @param {Trace} trace @param {Machine} machine
+ */
+function entered(trace, machine) {
+  return machine.entry === 0 && machine.state === trace.table.start && machine.cycleStart === 0 ? 'was there from the beginning, 0,' : `was entered at ${machine.entry}`;
+}
+
+/**
+ * Why a clock holds the test, with the sum.
+ * @param {Trace} trace @param {Machine} machine @param {number} time @param {Clock} clock
+ */
+function why(trace, machine, time, clock) {
+  const { states, inputs, timers } = trace.names;
+  const [state, polled] = [quoted(states, machine.state), quoted(inputs, machine.polled)];
+  const sum = `${time} - ${clock.from} = ${time - clock.from} is not more than ${clock.length}`;
+  if (clock.timer === null) return `state ${state} ${entered(trace, machine)} and delays ${polled} until its hold of ${clock.length} is passed: ${sum}`;
+  return `timer ${quoted(timers, clock.timer)} runs since ${clock.from}, when its region was entered, and delays ${polled} in ${state} until its length of `
+    + `${clock.length} is passed: ${sum}`;
+}
+
+/**
+ * A test that says free, and is held.
+ * @param {Case} c
+ * @returns {Said}
+ */
+function explainFree({ trace, record, machine }) {
+  const held = holding(trace.table, machine, record.time).map((clock) => why(trace, machine, record.time, clock));
+  const sentences = [`The test at ${record.time} says free, but ${listed(held)}.`,
+    `The first test that can be free is at ${freeFrom(trace.table, machine, record.time)}.`];
+  const slip = slipOfTest(trace);
+  const delayedNow = clocks(trace.table, machine).some((clock) => has(clock.delays, machine.present));
+  if (!slip && machine.present !== machine.polled && !delayedNow) {
+    sentences.push(`The input at the sensor, ${quoted(trace.names.inputs, machine.present)}, is not delayed; but what counts is what was polled.`);
+  }
+  return { sentences, slip };
+}
+
+/**
+ * A test that says held, and is free.
+ * @param {Case} c
+ * @returns {Said}
+ */
+function explainHeld({ trace, record, machine }) {
+  const { states, inputs, timers } = trace.names;
+  const [state, polled] = [quoted(states, machine.state), quoted(inputs, machine.polled)];
+  const here = clocks(trace.table, machine);
+  const delaying = here.filter((clock) => has(clock.delays, machine.polled));
+  const what = trace.table.kind === 'holds' ? 'hold' : 'timer';
+  if (here.length === 0) return { sentences: [`The test at ${record.time} says held, but state ${state} has no ${what}, so every test in it is free.`] };
+  if (delaying.length === 0) {
+    return { sentences: [`The test at ${record.time} says held, but input ${polled} is not delayed in state ${state}, so the test is free at once.`,
+      `A ${what} does not hold every input back, only those that it delays.`] };
+  }
+  const passed = delaying.map((clock) => {
+    const sum = `${record.time} - ${clock.from} = ${record.time - clock.from} is more than ${clock.length}`;
+    return clock.timer === null ? `the hold of ${state} is passed: it ${entered(trace, machine)}, and ${sum}`
+      : `timer ${quoted(timers, clock.timer)} is passed: it runs since ${clock.from}, and ${sum}`;
+  });
+  return { sentences: [`The test at ${record.time} says held, but ${listed(passed)}.`], slip: slipOfTest(trace) };
+}
+
+/**
+ * @param {Case} c
+ * @returns {Said}
+ */
+function explainDifferent(c) {
+  if (c.record.kind === 'poll') return explainPolled(c);
+  if (c.record.kind === 'tick') return explainTicked(c);
+  return c.record.value === 1 ? explainFree(c) : explainHeld(c);
+}
+
+/** @type {Map<number, (c: Case) => Said>} */
+const SENTENCES = new Map([
+  [19, explainTooLong], [20, explainTorn], [21, explainUnknown], [22, explainOutOfPlace], [23, explainRange], [24, explainEarlier],
+  [25, explainLate], [26, explainTurn], [27, explainPollTime], [28, explainDifferent],
+]);
+
+/**
+ * The bytes to point at: of a record the time, the value, or all of it.
+ * @param {Trace} trace @param {JournalRecord} record
+ */
+function blame({ refused, form }, record) {
+  const { place, length } = record;
+  const time = { place: place + 3, length: FORMS[form].width };
+  const number = refused?.number;
+  if (record.kind === 'bytes' || number === 22 || number === 26) return { place, length };
+  if (number === 24 || number === 25 || number === 27 || (number === 23 && record.time > LATEST)) return time;
+  return number === 23 || number === 28 ? { place: place + length - 1, length: 1 } : { place, length };
+}
+
+/**
+ * Why the journal, or the stimulus, is refused.
+ * @param {Trace} trace  one that was refused
+ * @returns {Explanation}
+ */
+export function explainTrace(trace) {
+  const step = trace.steps[trace.stop ?? 0];
+  const sentence = SENTENCES.get(trace.refused?.number ?? 0);
+  if (!step || !sentence || !trace.refused) throw new Error('only what was refused has an explanation');
+  const machine = /** @type {Machine} */ (step.before);
+  const { sentences, slip } = sentence({ trace, step, record: step.record, machine });
+  return {
+    sentences,
+    slip: slip ? `The usual slip: ${slip.says}` : null,
+    slipName: slip ? slip.name : null,
+    wanted: ownValue(trace, step),
+    blame: blame(trace, step.record),
+  };
+}
