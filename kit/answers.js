@@ -39,7 +39,7 @@ export function sayAcceptance({ names, cycle }, answer) {
   const sentences = [`The journal is a run of this table. It ends at ${thousands(end)} in state ${quoted(names.states, state)} with output `
     + `${quoted(names.outputs, output)}, after ${counted(cycles, 'cycle')} and ${counted(moves, 'move')}.`];
   if (cycles > 0) sentences.push(`Its longest cycle took ${thousands(longest)}, of at most ${thousands(cycle)}.`);
-  if (left > 0) sentences.push(`At a held test there were at most ${counted(left, 'tick')} left.`);
+  if (left > 0) sentences.push(`At a held test up to ${thousands(left)} was left until the hold was passed.`);
   return sentences;
 }
 

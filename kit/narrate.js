@@ -1,6 +1,6 @@
 /** An accepted record in a sentence: what it did, and why it is so. */
 
-import { counted, listed, quoted } from './names.js';
+import { listed, quoted, thousands } from './names.js';
 import { has } from './sets.js';
 import { clocks, holding, left } from './trace.js';
 
@@ -37,7 +37,7 @@ function test(trace, step, m) {
   if (delaying.length === 0) return `Free: input ${polled} is not delayed in ${state}.`;
   if (record.value !== 0) return `Free: ${listed(delaying.map((clock) => sum(trace, record.time, clock)))}, so the hold is passed.`;
   const sums = holding(trace.table, m, record.time).map((clock) => sum(trace, record.time, clock));
-  return `Held: ${polled} is delayed in ${state}, and ${listed(sums)}. ${counted(left(trace, step), 'tick')} left until it is passed.`;
+  return `Held: ${polled} is delayed in ${state}, and ${listed(sums)}. ${thousands(left(trace, step))} left until it is passed.`;
 }
 
 /**

@@ -72,12 +72,6 @@ const SLIPS = [
   },
   {
     name: 'hold-restarted',
-    rule: (clock, { time, machine }) => time - Math.max(clock.from, machine.cycleStart) <= clock.length,
-    says: (clock, { machine }) => `the ${called(clock)} was started again at the tick at ${machine.cycleStart}, although the state stayed. `
-      + `It runs from ${clock.from}.`,
-  },
-  {
-    name: 'hold-restarted',
     rule: (clock, { time, machine }) => time - Math.max(clock.from, machine.entry) <= clock.length,
     says: (clock, { machine }) => `the timer was started again by the move at ${machine.entry}. It runs on through moves inside its region, `
       + `and runs since ${clock.from}.`,
@@ -97,6 +91,12 @@ const SLIPS = [
     rule: (clock, tested) => tested.time - instant(clock, tested, 'byTest') <= clock.length,
     says: (clock, tested, { names }) => `the state was changed at the test, at ${instant(clock, tested, 'byTest')}. The new state is there from `
       + `the tick on: ${quoted(names.states, tested.machine.state)} was entered at ${tested.machine.entry}.`,
+  },
+  {
+    name: 'hold-restarted',
+    rule: (clock, { time, machine }) => time - Math.max(clock.from, machine.cycleStart) <= clock.length,
+    says: (clock, { machine }) => `the ${called(clock)} was started again at the tick at ${machine.cycleStart}, although the state stayed. `
+      + `It runs from ${clock.from}.`,
   },
 ];
 
