@@ -160,14 +160,15 @@ function holdEnd({ theme }, time, x, y) {
  * @param {Bar} bar
  * @param {{a: number, b: number, y: number, room: number, dot: boolean}} place
  */
-function barWords({ theme, sizes }, bar, { a, b, y, room, dot }) {
+function barWords({ theme, sizes, trace }, bar, { a, b, y, room, dot }) {
   const over = `over when ${thousands(bar.end)} is passed`;
   const inside = b - a - (dot ? 18 : 12);
   const full = [`${bar.what} delays ${bar.delays}: from ${thousands(bar.from)}, ${over}`, `${bar.what} delays ${bar.delays}, ${over}`, `${bar.what}: ${over}`,
     `until ${thousands(bar.end)} is passed`];
   const size = sizes.small;
   const whole = bar.to !== null && bar.to < bar.end ? undefined : full.find((words) => widthOf(words, size) <= inside);
-  const word = whole ?? firstThatFits([`${bar.what} delays ${bar.delays}`, bar.what, thousands(bar.end - bar.from)], inside, size);
+  const named = sizes.narrow && trace.table.kind === 'timers' ? [`until ${thousands(bar.end)}`] : [`${bar.what} delays ${bar.delays}`, bar.what];
+  const word = whole ?? firstThatFits([...named, thousands(bar.end - bar.from)], inside, size);
   const behind = whole === undefined && dot && room - b > widthOf(over, size) + 18 ? over : '';
   return [
     text(a + 6, y + 11 + size * 0.36, word.includes('…') ? '' : word, { size, fill: theme.ink, anchor: 'start' }),

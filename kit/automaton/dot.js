@@ -1,0 +1,70 @@
+/**
+ * The automaton as DOT, for Graphviz: what automaton.js draws, laid out by others.
+ */
+import { escapeXml, quoteDot } from '../escape.js';
+import { thousands } from '../names.js';
+import { members } from '../sets.js';
+import { nameOf } from '../name-of.js';
+import { LIGHT } from '../theme.js';
+import { edgesOf, wordsOf } from './graph.js';
+
+/** @typedef {import('../types.js').Table} Table */
+/** @typedef {import('../types.js').Names} Names */
+
+const FACE = 'fontname="DejaVu Sans"';
+
+/**
+ * @param {Table} table
+ * @param {Names} names
+ * @param {number} state
+ */
+function node(table, names, state) {
+  const { output, name, holds } = wordsOf(table, names, state);
+  const row = (/** @type {string} */ inner) => `<tr><td>${inner}</td></tr>`;
+  const below = holds.map((hold) => row(`<font color="${hold.text === '0' ? LIGHT.quiet : LIGHT.held}">${escapeXml(hold.text)}</font>`));
+  const rows = [row(escapeXml(output)), '<hr/>', row(`<b>${escapeXml(name)}</b>`), ...(below.length > 0 ? ['<hr/>'] : []), ...below];
+  return `  s${state} [id="state-${state}", label=<<table border="0" cellborder="0" cellspacing="0" cellpadding="3">${rows.join('')}</table>>];`;
+}
+
+/**
+ * @param {Names} names
+ * @param {import('./graph.js').Edge} edge
+ */
+function arrow(names, { from, to, free, delayed }) {
+  const list = (/** @type {number[]} */ inputs) => inputs.map((input) => nameOf(names.inputs, input)).join(', ');
+  const line = (/** @type {number[]} */ inputs, /** @type {string} */ style) => (inputs.length === 0 ? [] : [`  s${from} -> s${to} [label=${quoteDot(list(inputs))}${style}];`]);
+  return [...line(free, ''), ...line(delayed, `, style=dashed, color="${LIGHT.held}", fontcolor="${LIGHT.held}"`)];
+}
+
+/**
+ * Regions may overlap, which clusters of Graphviz may not; so they are named below the picture.
+ * @param {Table} table
+ * @param {Names} names
+ */
+function caption(table, names) {
+  const timers = table.timers.map((timer, k) => `timer ${nameOf(names.timers, k)}: ${thousands(timer.length)} from the entry into ` +
+    (members(timer.region).map((state) => nameOf(names.states, state)).join(', ') || 'no state'));
+  return [`cycle at most ${thousands(table.cycle)}`, ...timers].map((line) => quoteDot(line).slice(1, -1)).join('\\n');
+}
+
+/**
+ * @param {Table} table
+ * @param {{loops?: boolean, names?: Names}} [options]
+ * @returns {string}
+ */
+export function automatonDot(table, options = {}) {
+  const names = options.names ?? table.names;
+  const edges = edgesOf(table).filter((edge) => options.loops !== false || edge.from !== edge.to);
+  return [
+    'digraph automaton {',
+    '  rankdir=LR; nodesep=0.6; ranksep=1.1; pad=0.2;',
+    `  node [shape=circle, ${FACE}, fontsize=13, margin=0.02, penwidth=1.6, color="${LIGHT.ink}"];`,
+    `  edge [${FACE}, fontsize=12, color="${LIGHT.ink}", arrowsize=0.8];`,
+    `  label="${caption(table, names)}"; labelloc=b; ${FACE}; fontsize=12; fontcolor="${LIGHT.quiet}";`,
+    ...table.outputs.map((_, state) => node(table, names, state)),
+    `  start [shape=point, width=0.1]; start -> s${table.start};`,
+    ...edges.flatMap((edge) => arrow(names, edge)),
+    '}',
+    '',
+  ].join('\n');
+}
