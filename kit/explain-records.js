@@ -64,7 +64,7 @@ function explainTorn({ trace, record }) {
   const left = trace.journal.length - record.place;
   const is = left === 1 ? 'is' : 'are';
   const torn = left > 0
-    ? `The ${word} stops in the middle of a field: of the one at byte ${record.place} ${counted(left, 'byte')} ${is} there.`
+    ? `The ${word} stops in the middle of a field: of the one that starts at byte ${record.place}, ${counted(left, 'byte')} ${is} there.`
     : trace.journal.length === 0 ? `The ${word} is empty.` : `The ${word} stops after byte ${record.place - 1} without an end field.`;
   const ticks = accepted(trace).filter((step) => step.record.kind === 'tick');
   const last = ticks[ticks.length - 1];
