@@ -55,10 +55,26 @@ export const DARK = {
 export const THEMES = { light: LIGHT, dark: DARK };
 
 /**
+ * A colour for each number: the ones given, then the same with other hues.
  * @param {string[]} colours
  * @param {number} number
  * @returns {string}
  */
 export function inTurn(colours, number) {
-  return colours[number % colours.length] ?? colours[0];
+  const colour = colours[number % colours.length] ?? colours[0];
+  const round = Math.floor(number / colours.length);
+  return round === 0 ? colour : turned(colour, 0.13 * round);
+}
+
+/**
+ * The colour with another hue, as bright as before: its red, green and blue are turned around the grey axis.
+ * @param {string} colour   #rrggbb
+ * @param {number} by       1 is a whole turn
+ */
+function turned(colour, by) {
+  const parts = [1, 3, 5].map((at) => parseInt(colour.slice(at, at + 2), 16));
+  const grey = (parts[0] + parts[1] + parts[2]) / 3;
+  const [cosine, sine] = [Math.cos(2 * Math.PI * by), Math.sin(2 * Math.PI * by) / Math.sqrt(3)];
+  const mixed = parts.map((part, k) => grey + (part - grey) * cosine + (parts[(k + 2) % 3] - parts[(k + 1) % 3]) * sine);
+  return `#${mixed.map((part) => Math.round(Math.min(255, Math.max(0, part))).toString(16).padStart(2, '0')).join('')}`;
 }

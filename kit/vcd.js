@@ -1,0 +1,140 @@
+/**
+ * A journal as a value change dump, which GTKWave opens.
+ *
+ * Input, polled input, verdict, state, output and phase stand there by their names, as GTKWave's strings; for other viewers also by their
+ * numbers. `cycle` counts the cycles from 0, `left` is how many ticks are left at a held test. Where the journal was refused, `refused` becomes
+ * 1 at the record. The dump ends one unit later than the journal, so that what happens last can be seen.
+ */
+import { vcdWord } from './escape.js';
+import { nameOf } from './name-of.js';
+import { left } from './trace.js';
+
+/** @typedef {import('./types.js').Trace} Trace */
+/** @typedef {import('./types.js').Step} Step */
+/** @typedef {{name: string, type: 'string'|'wire'|'event', width: number, scope: string}} Signal */
+
+const PHASES = ['before_poll', 'before_test', 'held', 'free'];
+
+/** @type {Signal[]} */
+const SIGNALS = [
+  ...['input', 'polled', 'verdict', 'state', 'output', 'phase'].map((name) => ({ name, type: /** @type {const} */ ('string'), width: 1, scope: 'run' })),
+  { name: 'cycle', type: 'wire', width: 32, scope: 'run' },
+  { name: 'left', type: 'wire', width: 32, scope: 'run' },
+  { name: 'refused', type: 'wire', width: 1, scope: 'run' },
+  ...['change', 'poll', 'test', 'tick'].map((name) => ({ name, type: /** @type {const} */ ('event'), width: 1, scope: 'records' })),
+  ...['input', 'polled', 'state', 'output'].map((name) => ({ name: `${name}_number`, type: /** @type {const} */ ('wire'), width: 5, scope: 'numbers' })),
+  { name: 'phase_number', type: 'wire', width: 2, scope: 'numbers' },
+  { name: 'verdict_number', type: 'wire', width: 1, scope: 'numbers' },
+];
+
+/** @type {Map<string, Signal & {code: string}>} */
+const BY_NAME = new Map(SIGNALS.map((signal, k) => [signal.name, { ...signal, code: String.fromCharCode(33 + k) }]));
+
+/**
+ * @param {string} unit
+ */
+function header(unit) {
+  const scopes = [...new Set(SIGNALS.map((signal) => signal.scope))];
+  const variables = (/** @type {string} */ scope) => [...BY_NAME.values()].filter((signal) => signal.scope === scope)
+    .map(({ type, width, code, name }) => `$var ${type} ${width} ${code} ${name}${width > 1 ? ` [${width - 1}:0]` : ''} $end`);
+  return [
+    '$version krossvil $end', `$timescale ${unit} $end`,
+    ...scopes.flatMap((scope) => [`$scope module ${scope} $end`, ...variables(scope), '$upscope $end']),
+    '$enddefinitions $end',
+  ];
+}
+
+/**
+ * A value as the dump has it; `x` stands for one that is not there yet.
+ * @param {string} name
+ * @param {string|number|null} value
+ */
+function change(name, value) {
+  const signal = BY_NAME.get(name);
+  if (signal === undefined) throw new Error(`no such signal: ${name}`);
+  if (signal.type === 'event') return `1${signal.code}`;
+  if (signal.type === 'string') return `s${vcdWord(value ?? '')} ${signal.code}`;
+  const bits = value === null ? 'x' : Number(value).toString(2);
+  return signal.width === 1 ? `${bits}${signal.code}` : `b${bits} ${signal.code}`;
+}
+
+/**
+ * All values after an accepted record. Polled input and verdict are those of this cycle.
+ * @param {Trace} trace
+ * @param {Step} step
+ * @param {number} cycle
+ * @returns {Record<string, string|number|null>}
+ */
+function valuesOf(trace, step, cycle) {
+  const { names, table } = trace;
+  const machine = step.after;
+  if (machine === null) return {};
+  const polled = machine.phase === 0 ? null : machine.polled;
+  const verdict = machine.phase === 2 ? 0 : machine.phase === 3 ? 1 : null;
+  const output = table.outputs[machine.state];
+  return {
+    input: nameOf(names.inputs, machine.present), polled: nameOf(names.inputs, polled), verdict: verdict === null ? '' : ['held', 'free'][verdict],
+    state: nameOf(names.states, machine.state), output: nameOf(names.outputs, output), phase: PHASES[machine.phase],
+    cycle, refused: 0, input_number: machine.present, polled_number: polled, state_number: machine.state, output_number: output,
+    phase_number: machine.phase, verdict_number: verdict,
+  };
+}
+
+/**
+ * Writes lines, and of a signal only what is new.
+ */
+class Dump {
+  /** @param {string} unit */
+  constructor(unit) {
+    this.lines = header(unit);
+    /** @type {Map<string, string|number|null>} */
+    this.last = new Map();
+    this.time = -1;
+  }
+
+  /** @param {number} time */
+  at(time) {
+    if (time <= this.time) return;
+    this.lines.push(`#${time}`);
+    this.time = time;
+  }
+
+  /** @param {Record<string, string|number|null>} values */
+  put(values) {
+    for (const [name, value] of Object.entries(values)) {
+      if (this.last.has(name) && this.last.get(name) === value) continue;
+      this.last.set(name, value);
+      this.lines.push(change(name, value));
+    }
+  }
+
+  /** @param {string} kind */
+  event(kind) {
+    if (BY_NAME.get(kind)?.type === 'event') this.lines.push(change(kind, 1));
+  }
+}
+
+/**
+ * @param {Trace} trace
+ * @param {{unit?: string}} [options]   how long one unit of time is: `1 ms` if it is not said
+ * @returns {string}
+ */
+export function vcd(trace, options = {}) {
+  const unit = /^(1|10|100) ?(s|ms|us|ns|ps|fs)$/.test(options.unit ?? '') ? options.unit ?? '' : '1 ms';
+  const dump = new Dump(unit);
+  dump.at(0);
+  let cycle = 0;
+  for (const step of trace.steps.slice(0, trace.stop ?? trace.steps.length)) {
+    cycle += step.record.kind === 'tick' ? 1 : 0;
+    dump.at(step.record.time);
+    dump.event(step.record.kind);
+    dump.put(valuesOf(trace, step, cycle));
+    if (['input', 'test', 'tick'].includes(step.record.kind)) dump.put({ left: left(trace, step) });
+  }
+  if (trace.stop !== null) {
+    dump.at(trace.steps[trace.stop].record.time);
+    dump.put({ refused: 1 });
+  }
+  dump.at(dump.time + 1);
+  return `${dump.lines.join('\n')}\n`;
+}
