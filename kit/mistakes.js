@@ -30,7 +30,7 @@ export class Mistakes {
 
   /**
    * One cause, one mistake: what is wrong in many places for one reason is said once.
-   * @param {string} cause @param {number} line @param {Token|null|undefined} at @param {string} says
+   * @param {string} cause @param {number} line @param {{column: number, width: number}|null|undefined} at @param {string} says
    */
   once(cause, line, at, says) {
     if (this.said.has(cause)) this.unsaid();

@@ -92,14 +92,13 @@ function readValue(reading, line, form, kind, at) {
   const token = line.tokens[at];
   const what = VALUES[kind];
   if (!saysValue(form, kind) || !what) {
-    const known = kind !== 'end' && token;
-    if (known) reading.mistakes.add(line.number, token, `a ${kind} in a stimulus has a time only; the runtime finds the rest`);
-    else reading.tooMany(line, token);
+    if (kind === 'end' || !token) reading.tooMany(line, token);
+    else reading.mistakes.once('value', line.number, token, `a ${kind} in a stimulus has a time only; the runtime finds the rest`);
     return 0;
   }
   reading.tooMany(line, line.tokens[at + 1]);
   if (token || kind === 'input') return reading.member(line, token, what);
-  reading.mistakes.add(line.number, behind(line), `the ${kind} at ${line.tokens[0].text} does not say ${MISSING.get(kind)}`);
+  reading.mistakes.once('no value', line.number, behind(line), `the ${kind} at ${line.tokens[0].text} does not say ${MISSING.get(kind)}`);
   return 0;
 }
 

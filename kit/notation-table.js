@@ -73,7 +73,7 @@ function put(lines, line, reading) {
     lines.blocks.push({ line, output: null, hold: null, delays: [], arrows: [] });
   } else if (line.tokens.some((token) => token.kind === 'arrow')) {
     if (block) block.arrows.push(line);
-    else reading.mistakes.add(line.number, line.tokens[0], 'an arrow belongs under a state');
+    else orphan(reading, line, 'an arrow');
   } else if (word === 'bytes') {
     lines.rest.push(line);
   } else if ((word === 'output' || word === 'hold') && block) {
@@ -93,15 +93,25 @@ function put(lines, line, reading) {
 }
 
 /**
+ * A line that belongs under a state, where none was begun. The state that it was meant for is likely missing.
+ * @param {Reading} reading @param {Line} line @param {string} what
+ */
+function orphan(reading, line, what) {
+  reading.unsound.add('state');
+  reading.mistakes.once('orphan', line.number, line.tokens[0], `${what} belongs under a state`);
+}
+
+/**
  * @param {Reading} reading @param {Line} line
  */
 function notUnderstood(reading, line) {
   const [first, second] = line.tokens;
-  const stateless = ['output', 'hold'].includes(first.text) || secondIs(line, 'delays');
-  const says = stateless ? `'${secondIs(line, 'delays') ? 'delays' : first.text}' belongs under a state` : `'${first.text}' is not understood here`;
-  const wrongDelays = second && !stateless && !didYouMean(first.text, WORDS) && didYouMean(second.text, ['delays']);
-  if (wrongDelays) reading.mistakes.add(line.number, second, `'${second.text}' is not understood here${wrongDelays}`);
-  else reading.mistakes.add(line.number, first, says + (stateless ? '' : didYouMean(first.text, WORDS)));
+  if (['output', 'hold'].includes(keyword(line))) return orphan(reading, line, `'${first.text}'`);
+  if (secondIs(line, 'delays')) return orphan(reading, line, "'delays'");
+  const meant = didYouMean(first.text, WORDS);
+  const delays = second && !meant ? didYouMean(second.text, ['delays']) : '';
+  const [wrong, hint] = second && delays ? [second, delays] : [first, meant];
+  return reading.mistakes.add(line.number, wrong, `'${wrong.text}' is not understood here${hint}`);
 }
 
 /**

@@ -53,7 +53,7 @@ export function isText(data) {
  */
 function linesOf(source) {
   if (source.length > TEXT_MAX) return { lines: [''], mistake: `a text of more than ${TEXT_MAX} bytes is not read` };
-  const split = (/** @type {string} */ text) => text.replace(BOM, '').split(/\r\n|\n|\r/);
+  const split = (/** @type {string} */ text) => (text.startsWith(BOM) ? text.slice(1) : text).split(/\r\n|\n|\r/);
   if (typeof source === 'string') return { lines: split(source) };
   try {
     return { lines: split(new TextDecoder('utf-8', { fatal: true }).decode(source)) };
@@ -71,14 +71,17 @@ function linesOf(source) {
  */
 function sectionOf(header, sections, mistakes) {
   const words = header.tokens.slice(1);
-  const kind = KINDS.get(words.map((token) => token.text).join(' '));
+  const given = words.map((token) => token.text).join(' ');
+  const kind = KINDS.get(given);
   if (!kind) {
-    const given = words.map((token) => token.text).join(' ');
     const says = `after 'krossvil' comes table, stimulus, journal, stamped journal or short journal${didYouMean(given, [...KINDS.keys()])}`;
     mistakes.add(header.number, words[0] ?? header.tokens[0], says);
     return null;
   }
-  if (sections.some((section) => section.kind === kind)) mistakes.add(header.number, words[0], `a second ${words.map((token) => token.text).join(' ')} in one text`);
+  if (sections.some((section) => section.kind === kind)) {
+    mistakes.add(header.number, words[0], `a second ${given} in one text`);
+    return null;
+  }
   return { kind, header, body: [], spoilt: false };
 }
 
