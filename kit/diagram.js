@@ -13,7 +13,7 @@ import { answerWords, box, head, legend } from './diagram/frame.js';
 import { Labels } from './diagram/labels.js';
 import { lanesFor } from './diagram/lanes.js';
 import { overview } from './diagram/overview.js';
-import { blockMarks, cycles, records } from './diagram/records.js';
+import { blockMarks, cycles, marked, records } from './diagram/records.js';
 import { axisBreak, cycleLimit, refusedLine, refusedMark, refusedWords } from './diagram/refused.js';
 import { refusedStep, viewOf, xOf, yOf } from './diagram/view.js';
 
@@ -67,8 +67,11 @@ function lanesOf(view, foot) {
 function recordsOf(view) {
   const { lanes, sizes, width } = view;
   const labels = new Labels({ x: sizes.left, y: lanes.top, width: width - sizes.left - 3, height: lanes.bottom - lanes.top });
-  if (!view.dense) blockMarks(view, labels);
+  const marks = view.dense ? [] : marked(view);
+  if (view.stretch.far) labels.block(view.end, lanes.top, width - view.end, lanes.bottom - lanes.top);
+  blockMarks(view, labels, marks.filter((step) => step.after !== null));
   const words = refusedWords(view, labels);
+  blockMarks(view, labels, marks.filter((step) => step.after === null));
   return [selectedMark(view), view.dense ? denseRecords(view) : records(view, labels), refusedMark(view, words)];
 }
 

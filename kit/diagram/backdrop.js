@@ -40,7 +40,19 @@ export function axis(view) {
     path(lines, { stroke: theme.grid, 'stroke-width': 1 }),
     text(sizes.left - sizes.gap, lanes.axis, 'time', { size: sizes.small, fill: theme.quiet, anchor: 'end' }),
     times.filter((time) => clearOfRefused(view, time))
-      .map((time) => text(x(time), lanes.axis, thousands(time), { size: sizes.small + 0.5, fill: theme.quiet, anchor: 'middle' })));
+      .map((time) => axisNumber(view, time, { size: sizes.small + 0.5, fill: theme.quiet })));
+}
+
+/**
+ * A number on the axis, which stays inside the picture.
+ * @param {View} view
+ * @param {number} time
+ * @param {{size: number, fill: string, bold?: boolean}} style
+ */
+export function axisNumber({ x, width, sizes, lanes }, time, style) {
+  const words = thousands(time);
+  const half = widthOf(words, style.size, style.bold) / 2;
+  return text(Math.min(Math.max(x(time), sizes.left + half - 8), width - half - 3), lanes.axis, words, { ...style, anchor: 'middle' });
 }
 
 /**

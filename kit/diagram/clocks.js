@@ -93,7 +93,8 @@ function narrowBars(view, lane, bars) {
 }
 
 /**
- * Where one goes through the records, nobody knows yet that a state will be left, but the end of its hold is known from its entry on.
+ * Where one goes through the records, nobody knows yet that a state will be left, but the end of its hold is known from its entry on. So
+ * its bar goes on, and bars that come in its place are left out.
  * @param {View} view
  * @param {Bar[]} bars
  * @returns {Bar[]}
@@ -101,11 +102,14 @@ function narrowBars(view, lane, bars) {
 function asKnown(view, bars) {
   const now = presentOf(view)?.step;
   if (now === undefined) return bars;
+  const { time } = now.record;
   const entered = now.after ?? now.before;
-  return bars.map((bar) => {
-    const begun = bar.from < now.record.time || (bar.from === now.record.time && (entered?.entry === bar.from || bar.from === 0));
-    return { ...bar, later: !begun, to: begun && bar.to !== null && bar.to > now.record.time ? null : bar.to };
+  const known = bars.map((bar) => {
+    const begun = bar.from < time || (bar.from === time && (entered?.entry === bar.from || bar.from === 0));
+    return { ...bar, later: !begun, to: begun && bar.to !== null && bar.to > time ? null : bar.to };
   });
+  const present = known.find((bar) => !bar.later && bar.to === null);
+  return known.filter((bar) => !bar.later || present === undefined || bar.from > present.end);
 }
 
 /**

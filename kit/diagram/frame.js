@@ -38,7 +38,7 @@ export function head(view) {
   const side = sizes.narrow ? 12 : 24;
   const room = width - 2 * side;
   const size = sizes.title;
-  const titles = options.title ? wrap(options.title, room, size, true) : [];
+  const titles = options.title ? wrap(options.title.slice(0, 300), room, size, true).slice(0, 3) : [];
   const answerSize = sizes.narrow ? 13 : 16;
   const fill = trace.refused === null ? theme.free : theme.red;
   const free = room - widthOf(titles[0] ?? '', size, true) - 24;
@@ -69,10 +69,11 @@ export function box(view, y) {
   const leading = size * 1.45;
   const words = sentences.flatMap((sentence) => wrap(sentence, room, size));
   const slip = options.slip ? wrap(options.slip, room - 14, size) : [];
-  const height = size + 30 + leading * (words.length + slip.length) + (slip.length > 0 ? 8 : 0);
+  const height = size + 22 + leading * (words.length + slip.length) + (slip.length > 0 ? 10 : 0);
   const place = `byte ${thousands(trace.at ?? trace.refused.place)}`;
   const where = step === null ? place : `record ${step.number}, ${place}`;
   const number = String(trace.refused.number);
+  const indent = widthOf(number, size + 5, true) + 10;
   const first = y + size + 30;
   const slipTop = first + leading * words.length - size + 4;
   return {
@@ -81,7 +82,7 @@ export function box(view, y) {
       step === null ? null : pointer(view, xOf(view, step), y, side),
       rect(side, y, width - 2 * side, height, { fill: theme.redPaper, stroke: theme.red, 'stroke-width': 1.8, rx: 6 }),
       text(side + inset, y + size + 9, number, { size: size + 5, fill: theme.red, bold: true }),
-      text(side + inset + widthOf(number, size + 5, true) + 10, y + size + 8, where, { size: size - 1, fill: theme.quiet }),
+      text(side + inset + indent, y + size + 8, firstThatFits(options.meaning ? [`${where}: ${options.meaning}`, where] : [where], room - indent, size - 1), { size: size - 1, fill: theme.quiet }),
       words.map((line_, k) => text(side + inset, first + leading * k, line_, { size, fill: theme.ink })),
       slip.length === 0 ? null : rect(side + inset, slipTop + 2, 4, leading * slip.length, { fill: theme.red }),
       slip.map((line_, k) => text(side + inset + 14, slipTop + size + 2 + leading * k, line_, { size, fill: theme.ink }))),

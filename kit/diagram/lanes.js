@@ -24,7 +24,7 @@
 export function sizesFor(width) {
   const narrow = width < 700;
   return narrow
-    ? { narrow, left: 62, gap: 14, right: 14, word: 11.5, text: 12, small: 11, title: 16, ring: 13 }
+    ? { narrow, left: 64, gap: 16, right: 14, word: 11.5, text: 12, small: 11, title: 16, ring: 13 }
     : { narrow, left: 140, gap: 20, right: 34, word: 16, text: 14, small: 12.5, title: 21, ring: 17 };
 }
 

@@ -146,25 +146,30 @@ export function records(view, labels) {
  * The steps that have marks. Those whose marks are long lines come first, so that they lie below the others.
  * @param {View} view
  */
-function marked(view) {
+export function marked(view) {
   const drawn = view.shown.filter((step) => step.record.kind in MARKS);
   const isLine = (/** @type {Step} */ step) => step.record.kind === 'tick' || step.record.kind === 'end';
   return [...drawn.filter(isLine), ...drawn.filter((step) => !isLine(step))];
 }
 
 /**
- * No word stands on the mark of a record that was read.
+ * No word stands on these marks.
  * @param {View} view
  * @param {Labels} labels
+ * @param {Step[]} steps
  */
-export function blockMarks(view, labels) {
-  const { lanes, scale, stretch, end, width } = view;
-  if (stretch.far) labels.block(end, lanes.top, width - end, lanes.bottom - lanes.top);
-  for (const step of marked(view).filter((read) => read.after !== null)) {
+export function blockMarks(view, labels, steps) {
+  const { lanes, scale, sizes } = view;
+  for (const step of steps) {
     const x = xOf(view, step);
-    if (step.record.kind === 'tick') labels.block(x - 3, lanes.band.y, 6, lanes.cycle - lanes.band.y);
-    else if (step.record.kind === 'end') labels.block(x - 2, lanes.top, 4, lanes.bottom - lanes.top);
-    else labels.block(x - 9 * scale, yOf(view, step) - 9 * scale, 18 * scale, 18 * scale);
+    if (step.record.kind === 'tick') {
+      const { from, to, length } = cycleOf(view, step);
+      const wide = widthOf(length, sizes.small);
+      labels.block(x - 3, lanes.band.y, 6, lanes.cycle - lanes.band.y);
+      labels.block((from + to - wide) / 2, lanes.cycle - 8, wide, 16);
+    }
+    if (step.record.kind === 'end') labels.block(x - 2, lanes.top, 4, lanes.bottom - lanes.top);
+    if (['poll', 'test', 'change'].includes(step.record.kind)) labels.block(x - 9 * scale, yOf(view, step) - 9 * scale, 18 * scale, 18 * scale);
   }
 }
 
@@ -255,13 +260,23 @@ export function sides(view, step, gap, words) {
  * @param {View} view
  */
 export function cycles(view) {
-  const { x, stretch } = view;
-  const ticks = view.shown.filter((step) => step.record.kind === 'tick' && step.after !== null);
+  const { options, shown, stretch } = view;
+  const ticks = shown.filter((step) => step.record.kind === 'tick' && step.after !== null);
   return group({ class: 'cycles' }, ticks.map((step) => {
-    const start = step.before?.cycleStart ?? 0;
-    const later = view.options.step && step.number > (view.options.selected ?? Infinity);
-    return group({ opacity: later ? 0.25 : null }, cycleArrow(view, x(Math.max(start, stretch.from)), x(step.record.time), thousands(step.record.time - start), start >= stretch.from));
+    const later = options.step && step.number > (options.selected ?? Infinity);
+    const { from, to, length } = cycleOf(view, step);
+    return group({ opacity: later ? 0.25 : null }, cycleArrow(view, from, to, length, (step.before?.cycleStart ?? 0) >= stretch.from));
   }));
+}
+
+/**
+ * The cycle that a tick ends: where it stands, and its length in words.
+ * @param {View} view
+ * @param {Step} step
+ */
+function cycleOf({ x, stretch }, step) {
+  const start = step.before?.cycleStart ?? 0;
+  return { from: x(Math.max(start, stretch.from)), to: x(step.record.time), length: thousands(step.record.time - start) };
 }
 
 /**

@@ -6,6 +6,7 @@ import { widthOf } from '../text-width.js';
 import { nameOf } from '../name-of.js';
 import { thousands } from '../names.js';
 import { ownValue } from '../trace.js';
+import { axisNumber } from './backdrop.js';
 import { drawOnPlate } from './labels.js';
 import { sides } from './records.js';
 import { refusedStep, timeOf, xOf, yOf } from './view.js';
@@ -49,7 +50,10 @@ export function refusedWords(view, labels) {
   const second = { y: y + sizes.text * 1.1, text: is ?? '', size: sizes.small + 0.5, fill: theme.ink };
   const words = is === undefined ? [first] : [first, second];
   const [right, left] = sides(view, step, r + 7, words);
-  const chosen = labels.choose([right, left, stacked(words, x, y + r + 4), stacked(words, x, y - r - 6 - sizes.text * 1.15 * words.length)]);
+  const rows = [lanes.tick, lanes.poll, lanes.test, lanes.state.y - 10].flatMap((row) => sides(view, step, 7, [{ ...first, y: row + sizes.text * 0.36 }]));
+  const around = [left, stacked(words, x, y + r + 4), stacked(words, x, y - r - 6 - sizes.text * 1.15 * words.length)];
+  const inLane = y < lanes.band.y;
+  const chosen = labels.choose([right, ...(inLane ? [] : around), ...rows]);
   labels.block(x - r - 2, y - r - 2, 2 * r + 4, 2 * r + 4);
   labels.block(x - 2, lanes.band.y, 4, lanes.band.height);
   const fallback = x > view.width / 2 ? left : right;
@@ -75,14 +79,11 @@ function stacked(words, x, y) {
 export function refusedLine(view, foot) {
   const step = refusedStep(view);
   if (step === null) return null;
-  const { theme, lanes, sizes, width } = view;
+  const { theme, lanes, sizes } = view;
   const x = xOf(view, step);
-  const time = thousands(timeOf(view, step));
-  const half = widthOf(time, sizes.small, true) / 2;
-  const axisX = Math.min(Math.max(x, sizes.left + half - 8), width - half - 4);
   return group({ class: 'refusal-line' },
     line(x, lanes.top, x, foot, theme.red, 1.8, { 'stroke-dasharray': '6 4' }),
-    text(axisX, lanes.axis, time, { size: sizes.small + 0.5, fill: theme.red, anchor: 'middle', bold: true }));
+    axisNumber(view, timeOf(view, step), { size: sizes.small + 0.5, fill: theme.red, bold: true }));
 }
 
 /**

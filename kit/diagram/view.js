@@ -18,6 +18,7 @@ import { THEMES } from '../theme.js';
  * @property {boolean} [step]              what comes after the selected record is drawn faintly
  * @property {string[]} [sentences]        the refusal in words, for the box below
  * @property {string|null} [slip]          the usual slip, set off from them
+ * @property {string} [meaning]            what the refusal's number means, in a few words
  * @property {boolean} [head]              title and answer above the lanes; yes if it is not said
  * @property {boolean} [legend]            yes if it is not said
  * @property {'light'|'dark'} [theme]

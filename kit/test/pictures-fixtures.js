@@ -1,125 +1,70 @@
-/**
- * Tables and journals for the tests of pictures, and the traces that the proved library makes of them.
- */
-import { readFileSync } from 'node:fs';
-import { encodeTable, recordBytes } from '../fields.js';
-import { loadLibrary } from '../library.js';
+/** What the tests of pictures share: traces of the samples, of lines and of long journals, and a reader of pictures. */
+
+import { FORMS, decodeTable, encodeTable, recordBytes } from '../fields.js';
+import { readText } from '../notation.js';
 import { traceJournal } from '../trace.js';
+import { Chance } from './chance.js';
+import { library, sample } from './core.js';
 
-export const library = await loadLibrary(readFileSync(new URL('../../target/kit/krossvil.wasm', import.meta.url)));
-
-const HOLDS = { kind: 'holds', timers: [], rest: new Uint8Array() };
-
-export const classroom = {
-  ...HOLDS, counts: { states: 2, inputs: 2, outputs: 2 }, start: 0, cycle: 3, outputs: [0, 1], next: [[0, 1], [0, 1]], holds: [0, 5], delayed: [0, 1],
-  names: { states: ['idle', 'busy'], inputs: ['no_train', 'train'], outputs: ['N', 'T'], timers: [] },
-};
-
-export const watchdog = {
-  ...HOLDS, counts: { states: 3, inputs: 2, outputs: 3 }, start: 0, cycle: 25, outputs: [0, 1, 2], next: [[0, 1], [0, 2], [2, 2]], holds: [0, 900, 0],
-  delayed: [0, 2, 0], names: { states: ['q0', 'q1', 'q2'], inputs: ['s', 'n'], outputs: ['OK', 'Test', 'Alarm'], timers: [] },
-};
-
-export const stutter = {
-  ...HOLDS, counts: { states: 2, inputs: 2, outputs: 2 }, start: 0, cycle: 200, outputs: [0, 1], next: [[1, 0], [1, 0]], holds: [0, 5000], delayed: [0, 3],
-  names: { states: ['q0', 'q1'], inputs: ['tr', 'no_tr'], outputs: ['N', 'T'], timers: [] },
-};
-
-export const gasBurner = {
-  kind: 'timers', counts: { states: 4, inputs: 3, outputs: 3 }, start: 0, cycle: 4, outputs: [0, 0, 1, 2],
-  next: [[0, 1, 0], [0, 2, 1], [0, 0, 3], [0, 0, 3]], holds: [], delayed: [],
-  timers: [{ length: 12, region: 3, delays: [0, 2, 0, 0] }, { length: 9, region: 12, delays: [0, 0, 2, 2] }], rest: new Uint8Array(),
-  names: { states: ['idle', 'purge', 'ignite', 'burn'], inputs: ['off', 'heat', 'flame'], outputs: ['shut', 'spark', 'gas'], timers: ['shut_for', 'wait_flame'] },
-};
-
-/** Lines `time kind value`; the first is `input value`. Numbers throughout. */
-export const RUN = `input 0
-1 change 1
-2 poll 1
-2 test 1
-3 tick 1
-3 change 0
-5 poll 0
-5 test 0
-6 tick 1
-7 poll 0
-8 test 0
-9 tick 1
-10 poll 0
-10 test 1
-11 tick 0
-12 end`;
-
-export const CHANGED_VERDICT = RUN.replace('8 test 0', '8 test 1');
-
-/** An old entry instant let stand. */
-export const QUARRY = `input 1
-1 poll 1
-1 test 1
-2 tick 1
-4 change 0
-5 poll 0
-5 test 0
-5 tick 1
-8 poll 0
-8 test 1
-8 tick 0
-8 change 1
-9 poll 1
-9 test 1
-9 tick 1
-9 change 0
-10 poll 0
-10 test 1
-11 tick 0
-11 end`;
-
-/**
- * @param {string} lines
- * @param {string} form
- */
-export function bytesOf(lines, form = 'journal') {
-  return Uint8Array.from(lines.split('\n').flatMap((line) => {
-    const words = line.trim().split(/\s+/);
-    if (words[0] === 'bytes') return words.slice(1).map((word) => parseInt(word, 16));
-    if (words[0] === 'input') return recordBytes(form, 'input', 0, Number(words[1]));
-    return recordBytes(form, words[1], Number(words[0]), Number(words[2] ?? 0));
-  }));
+/** The table of a sample, with its names. */
+export function tableOf(name) {
+  const text = readText(sample(name));
+  return decodeTable(text.parts.find((part) => part.kind === 'table').bytes, text.names);
 }
 
-/** The trace of a journal, given in lines or bytes. */
+/** The trace of bytes under a table. */
 export function traceOf(table, journal, form = 'journal') {
-  const bytes = typeof journal === 'string' ? bytesOf(journal) : journal;
-  const trace = traceJournal(library, { table: encodeTable(table), journal: bytes, form, names: table.names });
-  if (trace === null) throw new Error('the table is refused');
-  return trace;
+  return traceJournal(library, { table: encodeTable(table), journal, form, names: table.names });
 }
 
-/** A seeded source of numbers below a bound. */
-export function dice(seed) {
-  let state = seed >>> 0;
-  return (bound) => {
-    state = Math.imul(state ^ state >>> 15, 0x2c1b3c6d) + 0x9e3779b9 >>> 0;
-    const mixed = Math.imul(state ^ state >>> 12, 0x297a2d39) >>> 0;
-    return ((mixed ^ mixed >>> 15) >>> 0) % bound;
-  };
+/** The trace of a sample's journal. */
+export function traceOfSample(name) {
+  const text = readText(sample(name));
+  const part = text.parts.find(({ kind }) => kind in FORMS && kind !== 'stimulus');
+  return traceOf(tableOf(name), part.bytes, part.kind);
 }
 
-/** A journal as long as a stimulus allows: the proved runtime answers a stimulus of random inputs and times. */
-export function longJournal(table, seed = 1, cycles = 2000) {
-  const roll = dice(seed);
-  const lines = ['input 0'];
+/** Names that are as hostile as can be, in place of a table's own. */
+export const HOSTILE = [
+  '</text><script>alert(1)</script>', '"\' onload="alert(1)', '&amp;&#60;]]>', '\u202eevil\u2066\u200f', 'nul\u0000\u0007\u001b[31mred', '\ud800 lone \udfff',
+  '$end #0 \n\t\\x41', '\\N\\G"];}; evil -> [label="', 'w'.repeat(5000), '', '日本語の名前', '\ufffe\uffff\u2028\u{e0041}',
+];
+
+/** The table with hostile names. */
+export function withHostileNames(table, shift = 0) {
+  const hostile = (list) => list.map((_, k) => HOSTILE[(k + shift) % HOSTILE.length]);
+  const { states, inputs, outputs, timers } = table.names;
+  return { ...table, names: { states: hostile(states), inputs: hostile(inputs), outputs: hostile(outputs), timers: hostile(timers) } };
+}
+
+/** Bytes of a journal whose every record is kept, save for one line: `time kind value` in the place of the one that begins so. */
+export function changed(trace, number, { kind, time, value }) {
+  const record = trace.steps[number].record;
+  const bytes = recordBytes('journal', kind ?? record.kind, time ?? record.time, value ?? record.value ?? 0);
+  return Uint8Array.from([...trace.journal.subarray(0, record.place), ...bytes, ...trace.journal.subarray(record.place + record.length)]);
+}
+
+/** A table that is the classroom's, but slower, so that a long journal has long and short cycles. */
+export const slow = { ...tableOf('classroom'), cycle: 30, holds: [0, 50] };
+
+/** As many cycles as are asked for, with a change now and then: the proved runtime answers a stimulus. 2,730 cycles have 65,531 bytes. */
+export function longJournal(table, { cycles = 2730, changes = 0, seed = 1 } = {}) {
+  const chance = new Chance(seed);
+  const part = Math.max(1, Math.floor(table.cycle / 4));
+  const bytes = [...recordBytes('stimulus', 'input', 0, 0)];
+  const put = (kind, time, value = 0) => bytes.push(...recordBytes('stimulus', kind, time, value));
   let now = 0;
   for (let k = 0; k < cycles; k++) {
-    const part = Math.max(1, Math.floor(table.cycle / 4));
-    if (roll(3) === 0) lines.push(`${now} change ${roll(table.counts.inputs)}`);
-    const poll = now + 1 + roll(part);
-    const test = poll + roll(part);
-    now = test + roll(part);
-    lines.push(`${poll} poll`, `${test} test`, `${now} tick`);
+    if (chance.percent(changes)) put('change', now, chance.below(table.counts.inputs));
+    const poll = now + 1 + chance.below(part);
+    const test = poll + chance.below(part);
+    now = test + chance.below(part);
+    put('poll', poll);
+    put('test', test);
+    put('tick', now);
   }
-  lines.push(`${now} end`);
-  const answer = library.run(encodeTable(table), bytesOf(lines.join('\n'), 'stimulus'));
+  put('end', now);
+  const answer = library.run(encodeTable(table), Uint8Array.from(bytes));
   if (!answer.ok) throw new Error(`the stimulus is refused ${answer.number} at ${answer.place}`);
   return answer.bytes;
 }
