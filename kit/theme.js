@@ -42,11 +42,11 @@ export const LIGHT = {
 /** @type {Theme} */
 export const DARK = {
   paper: '#10161d', ink: '#f2f5f8', quiet: '#bcc7d1', grid: '#37434f', border: '#8fa3b5', unread: '#7d8b98',
-  red: '#ff7a80', redPaper: '#34171b', poll: '#8cc2ff', held: '#ffc069', heldFill: '#a25c00', free: '#7fe0a0', freeFill: '#1d5a35',
+  red: '#ff7a80', redPaper: '#34171b', poll: '#a3cfff', held: '#ffc069', heldFill: '#a25c00', free: '#7fe0a0', freeFill: '#1a4f2f',
   lit: '#ffe066', litFill: '#5a4b00',
-  phases: ['#1b232c', '#1d3b5c', '#6b4309', '#1d5a35'],
-  inputs: ['#37304d', '#5b4a8c', '#24414b', '#2f6678', '#48401f', '#6e5d1c', '#4b2f40', '#7a3f65'],
-  states: ['#2b3641', '#44586c', '#25403a', '#336459', '#443626', '#6b5132', '#383253', '#5a4d85'],
+  phases: ['#1b232c', '#1d3b5c', '#5c3a08', '#1a4f2f'],
+  inputs: ['#342d49', '#4f4080', '#233f48', '#2a5a6a', '#443c1d', '#5f501a', '#472c3d', '#6c3759'],
+  states: ['#2b3641', '#3c4e60', '#25403a', '#2d594f', '#403324', '#5f482c', '#352f4f', '#4f4376'],
   outputs: ['#20282f', '#35434f', '#1d322d', '#294d45', '#33291f', '#503e29', '#2b2740', '#463d66'],
   timers: ['#ffae66', '#6fd3e4', '#e69bea', '#b7d86a'],
 };

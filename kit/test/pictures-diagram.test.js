@@ -123,17 +123,23 @@ function words(root) {
   });
 }
 
+/** No words overlap, and none leaves the picture. */
+function wordsAreApart(root, width, title) {
+  const boxes = words(root);
+  for (const [k, a] of boxes.entries()) {
+    assert.ok(a.left >= -0.5 && a.right <= width + 0.5, `${title}, ${width}: ${a.text}`);
+    const other = boxes.slice(k + 1).find((b) => a.left < b.right && b.left < a.right && a.top < b.bottom && b.top < a.bottom);
+    assert.equal(other, undefined, `${title}, ${width}: ${a.text} over ${other?.text}`);
+  }
+}
+
 test('no words overlap, and none leaves the picture', () => {
   const far = wrong(at('poll', 10), { time: 2000000000 });
   for (const { title, trace } of [...CASES, { title: 'Far away', trace: far }]) {
     for (const width of WIDTHS) {
       for (const options of [{}, { selected: 5, step: true }, { head: false, legend: false }]) {
-        const boxes = words(look(trace, { title, width, sentences: ['A sentence, which is a little longer than the others are.'], slip: 'A slip.', ...options }));
-        for (const [k, a] of boxes.entries()) {
-          assert.ok(a.left >= -0.5 && a.right <= width + 0.5, `${title}, ${width}: ${a.text}`);
-          const other = boxes.slice(k + 1).find((b) => a.left < b.right && b.left < a.right && a.top < b.bottom && b.top < a.bottom);
-          assert.equal(other, undefined, `${title}, ${width}: ${a.text} over ${other?.text}`);
-        }
+        const said = { sentences: ['A sentence, which is a little longer than the others are.'], slip: 'A slip.' };
+        wordsAreApart(look(trace, { title, width, ...said, ...options }), width, title);
       }
     }
   }
@@ -211,14 +217,15 @@ test('a journal of 64 KB is drawn within a second, in less than 200 KB', () => {
 
 const ROUNDS = 700;
 
-test(`${ROUNDS} runs, sound and damaged, of all forms: every picture is well-formed and marks what was refused`, () => {
+test(`${ROUNDS} runs, sound and damaged, of all forms: every picture is well-formed, marks what was refused, and can be read`, () => {
   for (let round = 0; round < ROUNDS; round++) {
     const chance = new Chance(round);
     const drawn = drawRun(chance, library);
     const form = chance.pick(['journal', 'stamped', 'short']);
     const trace = traceOf(drawn.table, perhapsDamaged(chance, drawn[form]), form);
-    const options = { width: chance.between(200, 1600), selected: chance.percent(50) ? chance.below(trace.steps.length) : null, step: chance.percent(50) };
+    const options = { width: chance.pick([390, 760, 1280]), selected: chance.percent(50) ? chance.below(trace.steps.length) : null, step: chance.percent(50) };
     const root = look(trace, options);
+    wordsAreApart(root, options.width, `round ${round}`);
     const inWindow = trace.steps.length < 150 && options.selected === null;
     if (inWindow || !trace.refused) assert.equal(ofClass(root, 'refused-record').length, trace.refused ? 1 : 0, `round ${round}`);
     for (const dot of ofClass(root, 'hold-end')) assert.ok(endsOf(trace).includes(Number(dot.attributes['data-time'])) || options.step, `round ${round}`);

@@ -1,0 +1,142 @@
+import assert from 'node:assert/strict';
+import { spawnSync } from 'node:child_process';
+import { test } from 'node:test';
+import { automaton, automatonDot } from '../automaton.js';
+import { edgesOf } from '../automaton/graph.js';
+import { layoutOf } from '../automaton/layout.js';
+import { distance } from '../automaton/route.js';
+import { Chance } from './chance.js';
+import { drawTable } from './draw.js';
+import { HOSTILE, tableOf, withHostileNames } from './pictures-fixtures.js';
+import { all, ofClass, readXml } from './well-formed.js';
+
+const TABLES = ['classroom', 'watchdog', 'gas-burner', 'stutter-filter'].map(tableOf);
+const KINDS = new Set(['svg', 'title', 'desc', 'g', 'rect', 'line', 'circle', 'path', 'text']);
+
+/** A controller as they are drawn in class: it goes on, stays or begins anew. */
+function drawController(chance, states) {
+  const inputs = chance.between(2, 3);
+  const next = Array.from({ length: states }, (_, q) => Array.from({ length: inputs }, () => chance.pick([q, (q + 1) % states, (q + 2) % states, 0])));
+  const named = (letter, count) => Array.from({ length: count }, (_, k) => `${letter}${k}`);
+  return {
+    ...TABLES[0], counts: { states, inputs, outputs: 2 }, next, outputs: next.map((_, q) => q % 2), holds: next.map((_, q) => q % 3), delayed: next.map((_, q) => (q % 3 ? 1 : 0)),
+    names: { states: named('state_', states), inputs: named('input_', inputs), outputs: ['off', 'on'], timers: [] },
+  };
+}
+
+function look(table, options) {
+  const root = readXml(automaton(table, options));
+  for (const { name, attributes } of all(root)) {
+    assert.ok(KINDS.has(name), `<${name}>`);
+    assert.ok(Object.keys(attributes).every((key) => !/^on|href|style/.test(key)));
+  }
+  return root;
+}
+
+test('each state and each edge is there once, and each input is named', () => {
+  for (const table of TABLES) {
+    const root = look(table);
+    const states = ofClass(root, 'state').map((group) => Number(group.attributes['data-state']));
+    assert.deepEqual(states, table.outputs.map((_, q) => q));
+    const ends = ({ attributes }) => `${attributes['data-from']} ${attributes['data-to']}`;
+    const wanted = edgesOf(table).map(({ from, to }) => `${from} ${to}`);
+    assert.deepEqual(ofClass(root, 'edge').map(ends).sort(), wanted.sort());
+    for (const [q, row] of table.next.entries()) {
+      for (const [input, to] of row.entries()) {
+        const edge = ofClass(root, 'edge').find((group) => ends(group) === `${q} ${to}`);
+        assert.ok(edge.children[0].text.includes(table.names.inputs[input]));
+      }
+    }
+    for (const { names: { states: list } } of [table]) assert.ok(list.every((name) => all(root).some(({ text }) => text === name)));
+  }
+});
+
+test('what is lit is lit, and nothing else', () => {
+  const gas = tableOf('gas-burner');
+  const lit = (options) => ofClass(look(gas, { lit: options }), 'lit').map(({ attributes }) => attributes['data-state'] ?? `${attributes['data-from']}-${attributes['data-to']}`);
+  assert.deepEqual(lit({}), []);
+  assert.deepEqual(lit({ state: 2 }), ['2']);
+  assert.deepEqual(lit({ edge: { from: 1, input: 1 } }), ['1-2']);
+  assert.deepEqual(lit({ path: [1, 1, 2, 2, 3] }).sort(), ['1', '1-2', '2', '2-3', '3']);
+  assert.deepEqual(lit({ path: [3] }), ['3']);
+});
+
+test("a timer's region is outlined: around its states alone, or each of them", () => {
+  const gas = tableOf('gas-burner');
+  const regions = ofClass(look(gas), 'region');
+  assert.deepEqual(regions.map((group) => group.attributes['data-timer']), ['0', '1']);
+  assert.ok(regions.every((group) => group.children.length === 1));
+  const apart = { ...gas, timers: [{ ...gas.timers[0], region: 0 }] };
+  assert.equal(ofClass(look(apart), 'region')[0].children.length, 0);
+});
+
+test('the picture is the same every time, and as wide as it may be at most', () => {
+  for (const table of TABLES) {
+    for (const width of [390, 800, 1280]) {
+      const root = look(table, { width });
+      assert.ok(Number(root.attributes.width) <= width);
+      assert.deepEqual(layoutOf(table, table.names, { width, loops: true }), layoutOf(table, table.names, { width, loops: true }));
+    }
+  }
+});
+
+test('states stand apart, and with up to 12 of them no edge goes through one', () => {
+  for (let states = 2; states <= 12; states++) {
+    for (let seed = 0; seed < 6; seed++) {
+      const table = drawController(new Chance(100 * states + seed), states);
+      const { places, radius, edges } = layoutOf(table, table.names, { width: 1200, loops: true });
+      for (const [q, place] of places.entries()) {
+        assert.ok(places.every((other, k) => k === q || distance(place, other) > 2 * radius + 40));
+        const through = edges.filter(({ edge, route }) => edge.from !== q && edge.to !== q && route.points.some((point) => distance(point, place) < radius));
+        assert.deepEqual(through.map(({ edge }) => `${edge.from} to ${edge.to} through ${q}`), [], `${states} states, seed ${seed}`);
+      }
+    }
+  }
+});
+
+test('32 states are laid out within two seconds', () => {
+  const table = drawController(new Chance(7), 32);
+  const start = performance.now();
+  look(table, { width: 1600 });
+  assert.ok(performance.now() - start < 2000);
+});
+
+test('any table that passes has a picture, and a DOT text with all its states', () => {
+  for (let round = 0; round < 60; round++) {
+    const chance = new Chance(round);
+    const table = drawTable(chance);
+    look(table, { width: chance.between(200, 1600), lit: { state: 0, path: [0] }, loops: chance.percent(50) });
+    const dot = automatonDot(table);
+    assert.equal(dot.match(/^ {2}s\d+ \[id=/gm).length, table.counts.states);
+  }
+});
+
+test('hostile names do no harm in the picture', () => {
+  for (let shift = 0; shift < HOSTILE.length; shift++) {
+    for (const table of TABLES) look(withHostileNames(table, shift), { title: HOSTILE[shift] });
+  }
+});
+
+/** A DOT text by its own rules: strings end, labels in angle brackets are well-formed, and statements end with a semicolon. */
+function readDot(dot) {
+  const strings = dot.replace(/label=<(<table.*<\/table>)>\]/g, (_, table) => {
+    readXml(table);
+    return 'label=T]';
+  });
+  const bare = strings.replace(/"(?:[^"\\]|\\.)*"/g, 'S');
+  assert.match(bare, /^digraph automaton \{\n(?: {2}[A-Za-z0-9_ \[\]=,;.>-]*;\n)+\}\n$/);
+}
+
+test('hostile names do no harm in DOT, and Graphviz reads it where it is installed', () => {
+  const graphviz = spawnSync('dot', ['-V']).status === 0;
+  for (let shift = 0; shift < HOSTILE.length; shift++) {
+    for (const table of TABLES) {
+      const dot = automatonDot(withHostileNames(table, shift));
+      readDot(dot);
+      if (!graphviz || shift > 2) continue;
+      const drawn = spawnSync('dot', ['-Tsvg'], { input: dot, encoding: 'utf8' });
+      assert.equal(drawn.status, 0, drawn.stderr);
+      assert.equal(drawn.stdout.includes('<script'), false);
+    }
+  }
+});
