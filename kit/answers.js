@@ -49,10 +49,10 @@ export function sayAcceptance({ names, cycle }, answer) {
  * @returns {string[]}
  */
 export function sayReaction({ names }, question, answer) {
-  const [states, inputs, target] = [named(names.states, question.states), named(names.inputs, question.inputs), named(names.states, answer.target)];
+  const [states, inputs] = [named(names.states, question.states), named(names.inputs, question.inputs)];
   const over = question.moves === undefined ? '' : ` over ${counted(question.moves, 'move')}`;
-  const sentences = [`As long as the state is one of ${states} and the input one of ${inputs}, it takes at most ${thousands(answer.time)}${over} `
-    + `until the state is one of ${target}.`];
+  const sentences = [`As long as the state is one of ${states} and the input one of ${inputs}, it takes at most `
+    + `${thousands(answer.time)}${over} until the state is one of ${named(names.states, answer.target)}.`];
   if (answer.target === 0) sentences.push('No state is left to be in: this never lasts so long.');
   if (answer.tight !== undefined) sentences.push(`In whole units ${thousands(answer.tight)} is enough.`);
   return sentences;
@@ -69,12 +69,14 @@ export function sayPath({ names }, path) {
 }
 
 /**
- * @param {{kept: number, dropped: number, number: number, place: number}} answer @param {Explanation|null} why  of the refusal that stopped it
+ * @param {{kept: number, dropped: number, number: number, place: number}} answer
+ * @param {Explanation|null} why  of the refusal that stopped it
  * @returns {string[]}
  */
 export function saySalvage({ kept, dropped, number, place }, why) {
   if (number === 0) return ['The journal is accepted as it is, and comes back unchanged.'];
-  const sentences = [`The first ${counted(kept, 'byte')} are kept, up to ${kept === 4 ? 'the opening' : 'the last sound tick'}, and an end is added; `
+  const upTo = kept === 4 ? 'the opening' : 'the last sound tick';
+  const sentences = [`The first ${counted(kept, 'byte')} are kept, up to ${upTo}, and an end is added; `
     + `${counted(dropped, 'byte')} ${dropped === 1 ? 'is' : 'are'} dropped.`, `It was stopped by refusal ${number} at ${place}.`];
   return why ? [...sentences, ...why.sentences] : sentences;
 }
@@ -98,7 +100,8 @@ export function sayDwell({ names }, { journals, dwell, pairs, entries }) {
   const share = (/** @type {number} */ slots) => (all === 0 ? '0.0' : (100 * slots / all).toFixed(1));
   const states = dwell.map((slots, q) => {
     const by = listed(pairs[q].flatMap((each, a) => (each > 0 ? [`${thousands(each)} with ${quoted(names.inputs, a)}`] : [])));
-    return `State ${quoted(names.states, q)}: ${thousands(slots)} of the time (${share(slots)} %)${by ? `, ${by}` : ''}; entered ${counted(entries[q], 'time')}.`;
+    const time = `${thousands(slots)} of the time (${share(slots)} %)${by ? `, ${by}` : ''}`;
+    return `State ${quoted(names.states, q)}: ${time}; entered ${counted(entries[q], 'time')}.`;
   });
   return [`${counted(journals, 'journal')} of ${thousands(all)} in all.`, ...states];
 }

@@ -3,12 +3,12 @@
  * sentence only says why.
  */
 
-import { explainTrace } from './explain-records.js';
-import { explainTable, isTableRefusal } from './explain-table.js';
-import { counted, quoted, thousands } from './names.js';
+import { explainTrace } from './explain/records.js';
+import { explainTable, isTableRefusal } from './explain/table.js';
+import { counted, numbered, quoted, thousands } from './names.js';
 import { has, members } from './sets.js';
 
-export { explainTable, isTableRefusal } from './explain-table.js';
+export { explainTable, isTableRefusal } from './explain/table.js';
 export { narrate } from './narrate.js';
 
 /** @typedef {import('./types.js').Table} Table */
@@ -71,8 +71,7 @@ export function explainJournal(trace) {
 function explainMember(table, set, which) {
   const count = table.counts[which];
   const [first] = members(set).filter((member) => member >= count);
-  const word = which === 'states' ? 'state' : 'input';
-  return plain([`The set of ${which} names number ${first}, but the ${counted(count, word)} ${count === 1 ? 'is numbered 0' : `are numbered 0 to ${count - 1}`}.`]);
+  return plain([`The set of ${which} names number ${first}, but ${numbered(count, which === 'states' ? 'state' : 'input')}.`]);
 }
 
 /**
@@ -80,9 +79,10 @@ function explainMember(table, set, which) {
  */
 function explainOutside(table, place, { states }) {
   const [p, a] = [Math.floor(place / table.counts.inputs), place % table.counts.inputs];
-  const [from, input, to] = [quoted(table.names.states, p), quoted(table.names.inputs, a), quoted(table.names.states, table.next[p][a])];
-  const sentences = [`The states do not hold together under these inputs: from ${from} input ${input} leads to ${to}, which is not among them.`,
-    `Add ${to} to the states, or leave ${from} or ${input} out.`];
+  const { names } = table;
+  const [from, input, to] = [quoted(names.states, p), quoted(names.inputs, a), quoted(names.states, table.next[p][a])];
+  const sentences = ['The states do not hold together under these inputs: '
+    + `from ${from} input ${input} leads to ${to}, which is not among them.`, `Add ${to} to the states, or leave ${from} or ${input} out.`];
   return plain(has(states, p) ? sentences : sentences.slice(0, 1), place);
 }
 
@@ -108,7 +108,8 @@ export function explainRoom({ number }, given = {}) {
   if (number === 34) {
     const records = Math.floor(((given.bytes ?? 0) - 9) / 6);
     const long = given.bytes ? `would have ${thousands(11 + 8 * records)} bytes` : 'would be too long';
-    return plain([`Written out, the journal that this short journal stands for ${long}; a journal has at most 65,536.`, 'The short journal itself can be checked as it is.']);
+    return plain([`Written out, the journal that this short journal stands for ${long}; a journal has at most 65,536.`,
+      'The short journal itself can be checked as it is.']);
   }
   if (number === 35) return plain(['The report has 1,000 journals already, and takes no more. Begin a new one.']);
   if (number === 33) return plain(['The memory for the sums, or for the path, is too short for so many moves.']);

@@ -56,6 +56,14 @@ export function counted(count, word) {
 }
 
 /**
+ * "the 3 states are numbered 0 to 2", "the only state is numbered 0"
+ * @param {number} count @param {string} word
+ */
+export function numbered(count, word) {
+  return count === 1 ? `the only ${word} is numbered 0` : `the ${counted(count, word)} are numbered 0 to ${count - 1}`;
+}
+
+/**
  * A number as it stands in a sentence: from five digits on with commas.
  * @param {number} number
  */

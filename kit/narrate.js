@@ -22,7 +22,8 @@ function change({ names }, { record }, m) {
  */
 function sum(trace, time, clock) {
   const name = clock.timer === null ? '' : ` (timer ${quoted(trace.names.timers, clock.timer)})`;
-  return `${time} - ${clock.from} = ${time - clock.from} is ${time - clock.from > clock.length ? 'more than' : 'at most'} ${clock.length}${name}`;
+  const since = time - clock.from;
+  return `${time} - ${clock.from} = ${since} is ${since > clock.length ? 'more than' : 'at most'} ${clock.length}${name}`;
 }
 
 /**
@@ -57,7 +58,7 @@ function tick({ names }, { record }, m) {
 export function narrate(trace, step) {
   const { record, before } = step;
   const { names, table } = trace;
-  if (!before) return `At time 0 the input is ${quoted(names.inputs, record.value ?? 0)} and the state ${quoted(names.states, table.start)}.`;
+  if (!before) return `At 0 the input is ${quoted(names.inputs, record.value ?? 0)} and the state ${quoted(names.states, table.start)}.`;
   if (record.kind === 'change') return change(trace, step, before);
   if (record.kind === 'test') return test(trace, step, before);
   if (record.kind === 'tick') return tick(trace, step, before);

@@ -6,22 +6,23 @@
  * several such parts.
  */
 
-import { nameFault, readLine } from './lexer.js';
-import { Mistakes, didYouMean } from './mistakes.js';
+import { nameFault, readLine } from './notation/lexer.js';
+import { Mistakes, didYouMean } from './notation/mistakes.js';
 import { plainNames } from './names.js';
-import { FORM_WORDS, readRecords, writeRecords } from './notation-records.js';
-import { readTable, writeTable } from './notation-table.js';
-import { Reading } from './reading.js';
+import { FORM_WORDS, readRecords, writeRecords } from './notation/records.js';
+import { readTable } from './notation/table-reader.js';
+import { writeTable } from './notation/table-writer.js';
+import { Reading } from './notation/reading.js';
 
-export { showMistakes } from './mistakes.js';
-export { FORM_WORDS, recordLine } from './notation-records.js';
+export { showMistakes } from './notation/mistakes.js';
+export { FORM_WORDS, recordLine } from './notation/records.js';
 
 /** @typedef {import('./types.js').Form} Form */
 /** @typedef {import('./types.js').Names} Names */
 /** @typedef {import('./types.js').Origin} Origin */
 /** @typedef {import('./types.js').Part} Part */
 /** @typedef {import('./types.js').Text} Text */
-/** @typedef {import('./lexer.js').Line} Line */
+/** @typedef {import('./notation/lexer.js').Line} Line */
 /** @typedef {{kind: 'table'|Form, header: Line, body: Line[], spoilt: boolean}} Section  spoilt: a line of it could not be read */
 
 export const TEXT_MAX = 4000000;
@@ -141,7 +142,7 @@ export function readText(source, names = null) {
   if (mistakes.count > 0) reading.distrust();
   const tableFirst = [...sections].sort((a, b) => Number(b.kind === 'table') - Number(a.kind === 'table'));
   const parts = tableFirst.map((section) => partOf(section, reading)).filter((part) => part !== null);
-  if (sections.length === 0 && mistakes.count === 0) mistakes.add(1, null, 'there is nothing in this text; it begins as in: krossvil table');
+  if (sections.length === 0 && mistakes.count === 0) mistakes.add(1, null, 'the text is empty; it begins as in: krossvil table');
   return { parts: /** @type {Part[]} */ (parts), names: reading.names, mistakes: mistakes.sorted(), lines };
 }
 

@@ -15,6 +15,8 @@ import { has } from './sets.js';
 /** @typedef {import('./types.js').Visit} Visit */
 /** @typedef {import('./types.js').Library} Library */
 /** @typedef {import('./types.js').Record} JournalRecord */
+/** @typedef {import('./types.js').Form} Form */
+/** @typedef {import('./types.js').Names} Names */
 /** @typedef {'journal'|'stamped'|'short'} JournalForm */
 /** @typedef {Pick<Trace, 'answer'|'refused'|'at'|'long'>} Verdict */
 
@@ -106,7 +108,7 @@ function stepsOf(table, records, stop) {
 
 /**
  * The record that is missing where the bytes end before the end field.
- * @param {JournalRecord[]} records @param {number} place @param {import('./types.js').Form} form
+ * @param {JournalRecord[]} records @param {number} place @param {Form} form
  * @returns {JournalRecord}
  */
 function missingRecord(records, place, form) {
@@ -117,7 +119,7 @@ function missingRecord(records, place, form) {
 /**
  * A journal under a table: the library's answer, and what each record did. Null if the table is refused: then ask library.checkTable.
  * @param {Library} library
- * @param {{table: Uint8Array, journal: Uint8Array, form?: import('./types.js').Form|'table', names?: import('./types.js').Names|null}} given
+ * @param {{table: Uint8Array, journal: Uint8Array, form?: Form|'table', names?: Names|null}} given
  * @returns {Trace|null}
  */
 export function traceJournal(library, given) {
@@ -150,7 +152,7 @@ function journalUpTo(library, table, stimulus, place) {
  * A stimulus that the runtime refuses: the records before the refusal are run, and their journal shows the machine. Null if the table is
  * refused, or if the stimulus is not: then its journal has a trace.
  * @param {Library} library
- * @param {{table: Uint8Array, stimulus: Uint8Array, names?: import('./types.js').Names|null}} given
+ * @param {{table: Uint8Array, stimulus: Uint8Array, names?: Names|null}} given
  * @returns {Trace|null}
  */
 export function traceStimulus(library, { table, stimulus, names }) {

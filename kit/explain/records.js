@@ -1,20 +1,20 @@
 /** Why a journal of any form, or a stimulus, is refused, in sentences. The number and the place are the library's. */
 
-import { FORMS, kindOf, numberAt, valueLength } from './fields.js';
-import { counted, listed, quoted, thousands } from './names.js';
-import { FORM_WORDS } from './notation-records.js';
-import { has } from './sets.js';
+import { FORMS, kindOf, numberAt, valueLength } from '../fields.js';
+import { counted, listed, numbered, quoted, thousands } from '../names.js';
+import { FORM_WORDS } from '../notation/records.js';
+import { has } from '../sets.js';
 import { slipOfTest, slipOfTick } from './slips.js';
-import { accepted, clocks, freeFrom, holding, ownValue } from './trace.js';
+import { accepted, clocks, freeFrom, holding, ownValue } from '../trace.js';
 
-/** @typedef {import('./types.js').Trace} Trace */
-/** @typedef {import('./types.js').Step} Step */
-/** @typedef {import('./types.js').Clock} Clock */
-/** @typedef {import('./types.js').Machine} Machine */
-/** @typedef {import('./types.js').Record} JournalRecord */
-/** @typedef {import('./types.js').Form} Form */
-/** @typedef {import('./types.js').Explanation} Explanation */
-/** @typedef {{sentences: string[], slip?: {name: import('./types.js').SlipName, says: string}|null}} Said */
+/** @typedef {import('../types.js').Trace} Trace */
+/** @typedef {import('../types.js').Step} Step */
+/** @typedef {import('../types.js').Clock} Clock */
+/** @typedef {import('../types.js').Machine} Machine */
+/** @typedef {import('../types.js').Record} JournalRecord */
+/** @typedef {import('../types.js').Form} Form */
+/** @typedef {import('../types.js').Explanation} Explanation */
+/** @typedef {{sentences: string[], slip?: {name: import('../types.js').SlipName, says: string}|null}} Said */
 /** @typedef {{trace: Trace, step: Step, record: JournalRecord, machine: Machine}} Case  the machine is that before the refused record */
 
 const LATEST = 2000000000;
@@ -50,9 +50,10 @@ function formWord(trace) {
  */
 function explainTooLong({ trace }) {
   const { max } = FORMS[trace.form];
-  const length = trace.journal.length;
-  const sentences = [`The ${formWord(trace)} has more than ${thousands(max)} bytes, and so many at most are read.`];
-  return { sentences: length > max + 1 ? [`The ${formWord(trace)} has ${thousands(length)} bytes; at most ${thousands(max)} are read.`] : sentences };
+  const { length } = trace.journal;
+  // A file that is read up to one byte more than the limit may have been longer.
+  const has = length > max + 1 ? thousands(length) : `more than ${thousands(max)}`;
+  return { sentences: [`The ${formWord(trace)} has ${has} bytes; at most ${thousands(max)} are read.`] };
 }
 
 /**
@@ -98,9 +99,10 @@ function explainUnknown({ trace, record }) {
   const length = numberAt(journal, record.place + 1, 2);
   const kind = kindOf(form, tag);
   const hex = tag.toString(16).padStart(2, '0');
+  const what = kind === 'input' ? 'the opening' : kind === 'end' ? 'the end' : `a ${kind}`;
   const says = kind
-    ? `The field at byte ${record.place} is ${kind === 'input' || kind === 'end' ? `the ${kind === 'input' ? 'opening' : 'end'}` : `a ${kind}`}, by its tag `
-      + `${hex}, but has length ${length}; here its length is ${valueLength(form, kind)}.`
+    ? `The field at byte ${record.place} is ${what}, by its tag ${hex}, but has length ${length}; `
+      + `here its length is ${valueLength(form, kind)}.`
     : `The field at byte ${record.place} has tag ${hex}, which no field of a ${formWord(trace)} has.`;
   return { sentences: [says, ...otherForm(form, tag, length)] };
 }
@@ -114,9 +116,11 @@ function explainOutOfPlace({ trace, step, record }) {
   if (step.number === 0) return { sentences: [`A ${word} opens with the input at time 0; this one begins with ${called(record)}.`] };
   if (trace.steps[step.number - 1].record.kind === 'end') {
     const more = trace.journal.length - record.place;
-    return { sentences: [`The ${word} ends before byte ${record.place}, but ${counted(more, 'byte')} ${more === 1 ? 'follows' : 'follow'}.`] };
+    const follow = `${counted(more, 'byte')} ${more === 1 ? 'follows' : 'follow'}`;
+    return { sentences: [`The ${word} ends before byte ${record.place}, but ${follow}.`] };
   }
-  return { sentences: [`A second opening stands at byte ${record.place}. The input at time 0 is given once, at the beginning; later inputs are changes.`] };
+  return { sentences: [`A second opening stands at byte ${record.place}.`,
+    'The input at time 0 is given once, at the beginning; later inputs are changes.'] };
 }
 
 /**
@@ -125,11 +129,10 @@ function explainOutOfPlace({ trace, step, record }) {
  */
 function explainRange({ trace, record }) {
   const { states, inputs } = trace.table.counts;
-  const numbered = (/** @type {number} */ count, /** @type {string} */ what) => `names ${what} ${record.value}, but the ${counted(count, what)} `
-    + `${count === 1 ? 'is numbered 0' : `are numbered 0 to ${count - 1}`}`;
+  const { kind, value } = record;
   if (record.time > LATEST) return { sentences: [`${capital(called(record))} is too late: times go up to ${thousands(LATEST)}.`] };
-  const says = record.kind === 'test' ? `has the verdict ${record.value}; a verdict is 0, held, or 1, free`
-    : record.kind === 'tick' ? numbered(states, 'state') : numbered(inputs, 'input');
+  const says = kind === 'test' ? `has the verdict ${value}; a verdict is 0, held, or 1, free`
+    : kind === 'tick' ? `names state ${value}, but ${numbered(states, 'state')}` : `names input ${value}, but ${numbered(inputs, 'input')}`;
   return { sentences: [`${capital(called(record))} ${says}.`] };
 }
 
@@ -139,7 +142,8 @@ function explainRange({ trace, record }) {
  */
 function explainEarlier({ trace, step, record }) {
   const before = trace.steps[step.number - 1].record;
-  return { sentences: [`${capital(called(record))} stands after ${called(before)}, which is later. Times never fall from one record to the next.`] };
+  return { sentences: [`${capital(called(record))} stands after ${called(before)}, which is later.`,
+    'Times never fall from one record to the next.'] };
 }
 
 /**
@@ -149,8 +153,8 @@ function explainEarlier({ trace, step, record }) {
 function explainLate({ trace, record, machine }) {
   const { cycle } = trace.table;
   const latest = machine.cycleStart + cycle;
-  const sentences = [`${capital(called(record))} is too late: the cycle began at ${machine.cycleStart} and lasts at most ${cycle}, so no record of it, `
-    + `be it a change or the end, is later than ${latest}.`];
+  const sentences = [`${capital(called(record))} is too late: the cycle began at ${machine.cycleStart} and lasts at most ${cycle}, `
+    + `so no record of it, be it a change or the end, is later than ${latest}.`];
   if (record.kind !== 'tick') sentences.push(`A tick at ${latest} or before would have begun a new cycle.`);
   return { sentences };
 }
@@ -203,21 +207,22 @@ function explainTicked({ trace, step, record, machine }) {
   const { states, inputs } = trace.names;
   const [said, here, polled] = [quoted(states, record.value ?? 0), quoted(states, machine.state), quoted(inputs, machine.polled)];
   const slip = slipOfTick(trace, step);
-  if (machine.phase === 2) return { sentences: [`The tick at ${record.time} says state ${said}, but the test before it was held, so state ${here} stays.`], slip };
-  const led = quoted(states, ownValue(trace, step) ?? 0);
-  const sentences = [`The tick at ${record.time} says state ${said}, but from ${here} the polled input ${polled} leads to ${led}.`];
+  const says = `The tick at ${record.time} says state ${said}`;
+  if (machine.phase === 2) return { sentences: [`${says}, but the test before it was held, so state ${here} stays.`], slip };
+  const sentences = [`${says}, but from ${here} the polled input ${polled} leads to ${quoted(states, ownValue(trace, step) ?? 0)}.`];
   if (machine.present !== machine.polled && trace.table.next[machine.state][machine.present] === record.value) {
-    sentences.push(`${said} is where ${quoted(inputs, machine.present)} leads, the input at the sensor; but it came at ${machine.change}, and the poll was `
-      + `at ${machine.polledAt}. What counts is what was polled.`);
+    sentences.push(`${said} is where ${quoted(inputs, machine.present)} leads, the input at the sensor; but it came at ${machine.change}, `
+      + `and the poll was at ${machine.polledAt}. What counts is what was polled.`);
   }
   return { sentences, slip };
 }
 
 /**
- * @param {Trace} trace @param {Machine} machine
+ * The only entry at 0 is that of the initial state: no tick comes before 1.
+ * @param {Machine} machine
  */
-function entered(trace, machine) {
-  return machine.entry === 0 && machine.state === trace.table.start && machine.cycleStart === 0 ? 'was there from the beginning, 0,' : `was entered at ${machine.entry}`;
+function entered({ entry }) {
+  return entry === 0 ? 'was there from the beginning, 0,' : `was entered at ${entry}`;
 }
 
 /**
@@ -228,9 +233,11 @@ function why(trace, machine, time, clock) {
   const { states, inputs, timers } = trace.names;
   const [state, polled] = [quoted(states, machine.state), quoted(inputs, machine.polled)];
   const sum = `${time} - ${clock.from} = ${time - clock.from} is not more than ${clock.length}`;
-  if (clock.timer === null) return `state ${state} ${entered(trace, machine)} and delays ${polled} until its hold of ${clock.length} is passed: ${sum}`;
-  return `timer ${quoted(timers, clock.timer)} runs since ${clock.from}, when its region was entered, and delays ${polled} in ${state} until its length of `
-    + `${clock.length} is passed: ${sum}`;
+  if (clock.timer === null) {
+    return `state ${state} ${entered(machine)} and delays ${polled} until its hold of ${clock.length} is passed: ${sum}`;
+  }
+  return `timer ${quoted(timers, clock.timer)} runs since ${clock.from}, when its region was entered, and delays ${polled} in ${state} `
+    + `until its length of ${clock.length} is passed: ${sum}`;
 }
 
 /**
@@ -245,7 +252,8 @@ function explainFree({ trace, record, machine }) {
   const slip = slipOfTest(trace);
   const delayedNow = clocks(trace.table, machine).some((clock) => has(clock.delays, machine.present));
   if (!slip && machine.present !== machine.polled && !delayedNow) {
-    sentences.push(`The input at the sensor, ${quoted(trace.names.inputs, machine.present)}, is not delayed; but what counts is what was polled.`);
+    const present = quoted(trace.names.inputs, machine.present);
+    sentences.push(`The input at the sensor, ${present}, is not delayed; but what counts is what was polled.`);
   }
   return { sentences, slip };
 }
@@ -261,17 +269,18 @@ function explainHeld({ trace, record, machine }) {
   const here = clocks(trace.table, machine);
   const delaying = here.filter((clock) => has(clock.delays, machine.polled));
   const what = trace.table.kind === 'holds' ? 'hold' : 'timer';
-  if (here.length === 0) return { sentences: [`The test at ${record.time} says held, but state ${state} has no ${what}, so every test in it is free.`] };
+  const says = `The test at ${record.time} says held`;
+  if (here.length === 0) return { sentences: [`${says}, but state ${state} has no ${what}, so every test in it is free.`] };
   if (delaying.length === 0) {
-    return { sentences: [`The test at ${record.time} says held, but input ${polled} is not delayed in state ${state}, so the test is free at once.`,
+    return { sentences: [`${says}, but input ${polled} is not delayed in state ${state}, so the test is free at once.`,
       `A ${what} does not hold every input back, only those that it delays.`] };
   }
   const passed = delaying.map((clock) => {
     const sum = `${record.time} - ${clock.from} = ${record.time - clock.from} is more than ${clock.length}`;
-    return clock.timer === null ? `the hold of ${state} is passed: it ${entered(trace, machine)}, and ${sum}`
+    return clock.timer === null ? `the hold of ${state} is passed: it ${entered(machine)}, and ${sum}`
       : `timer ${quoted(timers, clock.timer)} is passed: it runs since ${clock.from}, and ${sum}`;
   });
-  return { sentences: [`The test at ${record.time} says held, but ${listed(passed)}.`], slip: slipOfTest(trace) };
+  return { sentences: [`${says}, but ${listed(passed)}.`], slip: slipOfTest(trace) };
 }
 
 /**

@@ -3,15 +3,15 @@
  * would have. An error is the likely cause of a refused test if with it every test so far, and this one, comes out as it is written.
  */
 
-import { clocks } from './trace.js';
-import { has } from './sets.js';
-import { quoted } from './names.js';
+import { clocks } from '../trace.js';
+import { has } from '../sets.js';
+import { quoted } from '../names.js';
 
-/** @typedef {import('./types.js').Trace} Trace */
-/** @typedef {import('./types.js').Step} Step */
-/** @typedef {import('./types.js').Clock} Clock */
-/** @typedef {import('./types.js').Machine} Machine */
-/** @typedef {import('./types.js').SlipName} SlipName */
+/** @typedef {import('../types.js').Trace} Trace */
+/** @typedef {import('../types.js').Step} Step */
+/** @typedef {import('../types.js').Clock} Clock */
+/** @typedef {import('../types.js').Machine} Machine */
+/** @typedef {import('../types.js').SlipName} SlipName */
 
 /**
  * A test, and the instants that the errors mistake for others. Those of a clock are asked for by its key.
@@ -73,8 +73,8 @@ const SLIPS = [
   {
     name: 'hold-restarted',
     rule: (clock, { time, machine }) => time - Math.max(clock.from, machine.entry) <= clock.length,
-    says: (clock, { machine }) => `the timer was started again by the move at ${machine.entry}. It runs on through moves inside its region, `
-      + `and runs since ${clock.from}.`,
+    says: (clock, { machine }) => `the timer was started again by the move at ${machine.entry}. It runs on through moves inside its `
+      + `region, and runs since ${clock.from}.`,
   },
   {
     name: 'wrong-instant',
@@ -89,14 +89,14 @@ const SLIPS = [
   {
     name: 'move-at-test',
     rule: (clock, tested) => tested.time - instant(clock, tested, 'byTest') <= clock.length,
-    says: (clock, tested, { names }) => `the state was changed at the test, at ${instant(clock, tested, 'byTest')}. The new state is there from `
-      + `the tick on: ${quoted(names.states, tested.machine.state)} was entered at ${tested.machine.entry}.`,
+    says: (clock, tested, { names }) => `the state was changed at the test, at ${instant(clock, tested, 'byTest')}. The new state is `
+      + `there from the tick on: ${quoted(names.states, tested.machine.state)} was entered at ${tested.machine.entry}.`,
   },
   {
     name: 'hold-restarted',
     rule: (clock, { time, machine }) => time - Math.max(clock.from, machine.cycleStart) <= clock.length,
-    says: (clock, { machine }) => `the ${called(clock)} was started again at the tick at ${machine.cycleStart}, although the state stayed. `
-      + `It runs from ${clock.from}.`,
+    says: (clock, { machine }) => `the ${called(clock)} was started again at the tick at ${machine.cycleStart}, although the state `
+      + `stayed. It runs from ${clock.from}.`,
   },
 ];
 
@@ -200,7 +200,8 @@ export function slipOfTick(trace, { record, before }) {
     return { name: 'wrong-instant', says: `the hold was measured once more at the tick, at ${record.time}. What counts is the test.` };
   }
   if (before.phase === 3 && record.value === next[led][before.polled]) {
-    return { name: 'move-at-test', says: 'the state was changed at the test already, and then once more at the tick. It changes at the tick only.' };
+    const says = 'the state was changed at the test already, and then once more at the tick. It changes at the tick only.';
+    return { name: 'move-at-test', says };
   }
   return null;
 }

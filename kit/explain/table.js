@@ -1,12 +1,12 @@
 /** Why a table is refused, in sentences. */
 
-import { fieldAt, numberAt, tablePlaces } from './fields.js';
-import { counted, fittingNames, quoted, thousands } from './names.js';
-import { members } from './sets.js';
+import { fieldAt, numberAt, tablePlaces } from '../fields.js';
+import { counted, fittingNames, numbered, quoted, thousands } from '../names.js';
+import { members } from '../sets.js';
 
-/** @typedef {import('./types.js').Names} Names */
-/** @typedef {import('./types.js').Refusal} Refusal */
-/** @typedef {import('./types.js').Explanation} Explanation */
+/** @typedef {import('../types.js').Names} Names */
+/** @typedef {import('../types.js').Refusal} Refusal */
+/** @typedef {import('../types.js').Explanation} Explanation */
 
 /**
  * What is known of a table that is refused: its bytes, the refusal, and, once field 01 is sound, its counts and names.
@@ -19,9 +19,13 @@ import { members } from './sets.js';
  * @property {Names} names
  */
 
-/** @typedef {{sentences: string[], length: number, place?: number}} Said  the bytes to point at, from the refusal's place on if none is given */
+/**
+ * The bytes to point at are from the refusal's place on if no other is given.
+ * @typedef {{sentences: string[], length: number, place?: number}} Said
+ */
 
-const FIELDS = ['counts and initial state', 'cycle bound', 'outputs', 'next states', 'holds', 'delayed inputs', 'timers', 'inputs that timers delay'];
+const FIELDS = ['counts and initial state', 'cycle bound', 'outputs', 'next states', 'holds', 'delayed inputs', 'timers',
+  'inputs that timers delay'];
 const LONGEST_HOLD = 3600000;
 
 /**
@@ -68,10 +72,12 @@ function wantedFields(c) {
 function explainRunOut(c) {
   const left = c.bytes.length - c.place;
   const wanted = wantedFields(c).map(({ tag }) => fieldName(tag)).join(', or ');
-  if (left === 0) return { sentences: [`The table ends after ${counted(c.place, 'byte')}, where it should go on with ${wanted}.`], length: 0 };
+  if (left === 0) {
+    return { sentences: [`The table ends after ${counted(c.place, 'byte')}, where it should go on with ${wanted}.`], length: 0 };
+  }
+  const there = `${counted(left, 'byte')} of it ${left === 1 ? 'is' : 'are'} there`;
   const claimed = left >= 3 ? `; it claims to have ${counted(3 + numberAt(c.bytes, c.place + 1, 2), 'byte')}` : '';
-  const is = left === 1 ? 'is' : 'are';
-  return { sentences: [`The table ends in the middle of the field at byte ${c.place}: ${counted(left, 'byte')} of it ${is} there${claimed}.`], length: left };
+  return { sentences: [`The table ends in the middle of the field at byte ${c.place}: ${there}${claimed}.`], length: left };
 }
 
 /**
@@ -86,7 +92,8 @@ function explainWrongField(c) {
   const lengths = (/** @type {number[]} */ all) => all.map(thousands).join(' or ');
   const says = right
     ? `At byte ${c.place} ${fieldName(tag)}, has length ${length}; here its length is ${lengths(right.lengths)}.`
-    : `At byte ${c.place} should stand ${wanted.map((field) => fieldName(field.tag)).join(', or ')}; there stands a field with tag ${tag.toString(16).padStart(2, '0')}.`;
+    : `At byte ${c.place} should stand ${wanted.map((field) => fieldName(field.tag)).join(', or ')}; there stands a field with tag `
+      + `${tag.toString(16).padStart(2, '0')}.`;
   const hint = c.place > 0 ? [] : otherKind(tag);
   return { sentences: [says, ...hint], length: 3 };
 }
@@ -110,7 +117,7 @@ function explainCounts(c) {
   const word = ['state', 'input', 'output'][k];
   const says = k >= 0
     ? `The table has ${counted(values[k], word)}; there may be 1 to 32.`
-    : `The initial state is number ${values[3]}, but the ${counted(values[0], 'state')} are numbered 0 to ${values[0] - 1}.`;
+    : `The initial state is number ${values[3]}, but ${numbered(values[0], 'state')}.`;
   return { sentences: [says], place: 3 + (k >= 0 ? k : 3), length: 1 };
 }
 
@@ -133,19 +140,12 @@ function explainEntry(c) {
   const value = c.bytes[place];
   if (place < places.next(0, 0)) {
     const state = quoted(names.states, place - places.output(0));
-    return { sentences: [`State ${state} has output number ${value}, but the ${counted(counts.outputs, 'output')} ${numbered(counts.outputs)}.`], length: 1 };
+    return { sentences: [`State ${state} has output number ${value}, but ${numbered(counts.outputs, 'output')}.`], length: 1 };
   }
   const k = place - places.next(0, 0);
   const [state, input] = [quoted(names.states, Math.floor(k / counts.inputs)), quoted(names.inputs, k % counts.inputs)];
-  const says = `From state ${state} input ${input} leads to state number ${value}, but the ${counted(counts.states, 'state')} ${numbered(counts.states)}.`;
+  const says = `From state ${state} input ${input} leads to state number ${value}, but ${numbered(counts.states, 'state')}.`;
   return { sentences: [says], length: 1 };
-}
-
-/**
- * @param {number} count
- */
-function numbered(count) {
-  return count === 1 ? 'is numbered 0' : `are numbered 0 to ${count - 1}`;
 }
 
 /**
@@ -153,9 +153,9 @@ function numbered(count) {
  * @returns {Said}
  */
 function explainHold(c) {
-  const state = (c.place - tablePlaces(c.counts, 0).hold(0)) / 4;
-  const hold = numberAt(c.bytes, c.place, 4);
-  return { sentences: [`State ${quoted(c.names.states, state)} has a hold of ${thousands(hold)}; the longest is ${thousands(LONGEST_HOLD)}.`], length: 4 };
+  const state = quoted(c.names.states, (c.place - tablePlaces(c.counts, 0).hold(0)) / 4);
+  const hold = thousands(numberAt(c.bytes, c.place, 4));
+  return { sentences: [`State ${state} has a hold of ${hold}; the longest is ${thousands(LONGEST_HOLD)}.`], length: 4 };
 }
 
 /**
@@ -164,7 +164,7 @@ function explainHold(c) {
  */
 function beyond(set, count, what) {
   const [first] = members(set).filter((member) => member >= count);
-  return `${what} number ${first}, but the ${counted(count, what)} ${numbered(count)}`;
+  return `${what} number ${first}, but ${numbered(count, what)}`;
 }
 
 /**
@@ -263,5 +263,6 @@ export function explainTable(bytes, { number, place }, names) {
   const said = sentence
     ? sentence({ bytes, number, place, counts, timers, names: fittingNames(names, counts, timers) })
     : { sentences: [`The table is refused: ${number} at ${place}.`], length: 1 };
-  return { sentences: said.sentences, slip: null, slipName: null, wanted: null, blame: { place: said.place ?? place, length: said.length } };
+  const blame = { place: said.place ?? place, length: said.length };
+  return { sentences: said.sentences, slip: null, slipName: null, wanted: null, blame };
 }

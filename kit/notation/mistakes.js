@@ -1,6 +1,6 @@
 /** Mistakes in a text: where each stands, which word was likely meant, and causes only. */
 
-/** @typedef {import('./types.js').Mistake} Mistake */
+/** @typedef {import('../types.js').Mistake} Mistake */
 /** @typedef {import('./lexer.js').Token} Token */
 
 const SHOWN = 10;

@@ -1,16 +1,18 @@
 /** Pieces of lines as numbers: what tables and records have in common when a text is read. */
 
-import { didYouMean } from './mistakes.js';
+import { plainNames } from '../names.js';
 import { tokenNameFault } from './lexer.js';
+import { didYouMean } from './mistakes.js';
 
-/** @typedef {import('./types.js').Names} Names */
-/** @typedef {import('./types.js').Origin} Origin */
+/** @typedef {import('../types.js').Names} Names */
+/** @typedef {import('../types.js').Origin} Origin */
 /** @typedef {import('./lexer.js').Token} Token */
 /** @typedef {import('./lexer.js').Line} Line */
 /** @typedef {import('./mistakes.js').Mistakes} Mistakes */
 /** @typedef {'state'|'input'|'output'|'timer'|'verdict'} What */
 
 const VERDICTS = ['held', 'free'];
+const NONE = plainNames({ states: 0, inputs: 0, outputs: 0 }, 0);
 
 /** The mistakes of a text so far, and the names that are known. */
 export class Reading {
@@ -38,7 +40,8 @@ export class Reading {
    */
   known(what) {
     if (what === 'verdict') return VERDICTS;
-    return this.names ? { state: this.names.states, input: this.names.inputs, output: this.names.outputs, timer: this.names.timers }[what] : [];
+    const { states, inputs, outputs, timers } = this.names ?? NONE;
+    return { state: states, input: inputs, output: outputs, timer: timers }[what];
   }
 
   /**
@@ -75,7 +78,7 @@ export class Reading {
     }
     const k = this.known(what).indexOf(token.text);
     if (k < 0) this.unknown(line, token, what);
-    else if (k > limit) this.mistakes.add(line.number, token, `'${token.text}' is ${what} number ${k}; here only those up to ${limit} have a place`);
+    else if (k > limit) this.mistakes.add(line.number, token, `'${token.text}' is ${what} number ${k}; a set goes up to ${limit}`);
     return k < 0 || k > limit ? 0 : k;
   }
 

@@ -1,15 +1,15 @@
 /** Journals of the three forms and stimuli as texts: a record to a line. */
 
-import { FORMS, decodeRecords, recordBytes, saysValue } from './fields.js';
+import { FORMS, decodeRecords, recordBytes, saysValue } from '../fields.js';
 import { writtenName } from './lexer.js';
 import { didYouMean } from './mistakes.js';
 import { behind, origin } from './reading.js';
 
-/** @typedef {import('./types.js').Form} Form */
-/** @typedef {import('./types.js').Kind} Kind */
-/** @typedef {import('./types.js').Names} Names */
-/** @typedef {import('./types.js').Origin} Origin */
-/** @typedef {import('./types.js').Record} JournalRecord */
+/** @typedef {import('../types.js').Form} Form */
+/** @typedef {import('../types.js').Kind} Kind */
+/** @typedef {import('../types.js').Names} Names */
+/** @typedef {import('../types.js').Origin} Origin */
+/** @typedef {import('../types.js').Record} JournalRecord */
 /** @typedef {import('./lexer.js').Line} Line */
 /** @typedef {import('./lexer.js').Token} Token */
 /** @typedef {import('./reading.js').Reading} Reading */
@@ -195,5 +195,5 @@ export function writeRecords(bytes, form, names, notes = new Map()) {
     const note = notes.get(place);
     return note === undefined ? own : [`${own[0].padEnd(NOTE_COLUMN)}# ${note}`, ...own.slice(1)];
   });
-  return [`krossvil ${FORM_WORDS[form]}`, ...lines].join('\n') + '\n';
+  return [`krossvil ${FORM_WORDS[form]}`, ...lines, ''].join('\n');
 }

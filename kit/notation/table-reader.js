@@ -1,16 +1,15 @@
-/** Tables of both kinds as texts. */
+/** The text of a table, read. */
 
-import { decodeTable, encodeTable, fieldAt, tablePlaces } from './fields.js';
+import { encodeTable, tablePlaces } from '../fields.js';
+import { setOf } from '../sets.js';
 import { writtenName } from './lexer.js';
 import { didYouMean } from './mistakes.js';
-import { bytesLines, memberText } from './notation-records.js';
 import { behind, origin } from './reading.js';
-import { members, setOf } from './sets.js';
 
-/** @typedef {import('./types.js').Names} Names */
-/** @typedef {import('./types.js').Origin} Origin */
-/** @typedef {import('./types.js').Table} Table */
-/** @typedef {import('./types.js').Timer} Timer */
+/** @typedef {import('../types.js').Names} Names */
+/** @typedef {import('../types.js').Origin} Origin */
+/** @typedef {import('../types.js').Table} Table */
+/** @typedef {import('../types.js').Timer} Timer */
 /** @typedef {import('./lexer.js').Line} Line */
 /** @typedef {import('./lexer.js').Token} Token */
 /** @typedef {import('./reading.js').Reading} Reading */
@@ -42,6 +41,7 @@ const WORDS = [...HEADS, 'timer', 'state', 'output', 'hold', 'bytes'];
 const MOST_BYTE = 255;
 const MOST_NUMBER = 0xffffffff;
 const MOST_MEMBER = 31;
+const MOST_FIELD = 65535;
 
 /**
  * The keyword that a line begins with; a name in quotation marks is none.
@@ -127,6 +127,13 @@ function sorted(reading, header, body) {
 }
 
 /**
+ * @param {string} what
+ */
+function tooManyFor(what) {
+  return `more than ${MOST_BYTE} ${what}s do not fit in a byte`;
+}
+
+/**
  * The names that a line lists after its first word.
  * @param {Reading} reading @param {Line|undefined} line @param {'input'|'output'} what
  * @returns {string[]}
@@ -136,9 +143,10 @@ function readNames(reading, line, what) {
   const tokens = line ? reading.listed(line, line.tokens.slice(1), `${what}s`) : [];
   for (const [k, token] of tokens.entries()) {
     if (!line || !reading.isName(line, token)) continue;
-    if (tokens.findIndex((other) => other.text === token.text) < k) reading.mistakes.add(line.number, token, `'${token.text}' stands twice`);
+    const twice = tokens.findIndex((other) => other.text === token.text) < k;
+    if (twice) reading.mistakes.add(line.number, token, `'${token.text}' stands twice`);
   }
-  if (line && tokens.length > MOST_BYTE) reading.mistakes.add(line.number, tokens[MOST_BYTE], `more than ${MOST_BYTE} ${what}s do not fit in a byte`);
+  if (line && tokens.length > MOST_BYTE) reading.mistakes.add(line.number, tokens[MOST_BYTE], tooManyFor(what));
   if (!line || reading.mistakes.count > before) reading.unsound.add(what);
   return tokens.map((token) => token.text);
 }
@@ -159,7 +167,7 @@ function readSecondNames(reading, lines, what) {
     }
     if (what === 'state') reading.tooMany(line, line.tokens[2]);
   }
-  if (lines.length > MOST_BYTE) reading.mistakes.add(lines[MOST_BYTE].number, null, `more than ${MOST_BYTE} ${what}s do not fit in a byte`);
+  if (lines.length > MOST_BYTE) reading.mistakes.add(lines[MOST_BYTE].number, null, tooManyFor(what));
   if (reading.mistakes.count > before) reading.unsound.add(what);
   return names;
 }
@@ -185,7 +193,8 @@ class Gathered {
   }
 
   /**
-   * @param {number} place @param {number} length @param {Line} line @param {(Token|undefined)[]} [tokens]  all of the line if none are there
+   * @param {number} place @param {number} length @param {Line} line
+   * @param {(Token|undefined)[]} [tokens]  all of the line if none are there
    */
   came(place, length, line, tokens = []) {
     const given = /** @type {Token[]} */ (tokens.filter((token) => token !== undefined));
@@ -313,8 +322,7 @@ function readArrow(g, line, row, q) {
   for (const token of g.reading.listed(line, line.tokens.slice(0, at), 'inputs')) {
     const before = mistakes.count;
     const i = g.reading.member(line, token, 'input');
-    const known = mistakes.count === before && g.names.inputs.length > 0 && (token.kind === 'number' || g.names.inputs.includes(token.text));
-    if (!known) continue;
+    if (mistakes.count > before) continue;
     if (row.has(i)) mistakes.add(line.number, token, `a second arrow for input '${token.text}' in state '${g.names.states[q]}'`);
     else if (i >= g.counts.inputs) mistakes.add(line.number, token, `there is no input ${i} that an arrow could be for`);
     row.set(i, to);
@@ -334,7 +342,8 @@ function readRow(g, block, q) {
   if (missing.length > 0) {
     const state = g.names.states[q];
     const many = missing.length > 1 ? 's' : '';
-    const says = `state '${state}' has no arrow for input${many} ${missing.join(', ')}; if it stays, write: ${missing.join(', ')} -> ${writtenName(state)}`;
+    const inputs = missing.join(', ');
+    const says = `state '${state}' has no arrow for input${many} ${inputs}; if it stays, write: ${inputs} -> ${writtenName(state)}`;
     g.absent.push([block.line, says]);
   }
   return g.names.inputs.map((_, i) => row.get(i) ?? 0);
@@ -436,71 +445,12 @@ export function readTable(reading, header, body, whole) {
   const g = new Gathered(reading, lines, names);
   const rest = readRaw(reading, lines.rest);
   const table = readValues(g, rest.bytes);
-  if (4 * Math.max(2, names.states.length) * names.timers.length > 65535) mistakes.add(header.number, null, 'so many timers do not fit in a field');
+  const longest = 4 * Math.max(2, names.states.length) * names.timers.length;
+  if (longest > MOST_FIELD) mistakes.add(header.number, null, 'so many timers do not fit in a field');
   if (mistakes.count === before && whole) sayAbsent(g);
   if (mistakes.count > before || !whole) return { bytes: new Uint8Array(), origins: [] };
   const bytes = encodeTable(table);
   const end = bytes.length - rest.bytes.length;
   const behindLast = rest.origins.map((each) => ({ ...each, place: each.place + end }));
   return { bytes, origins: [origin(0, bytes.length, header), ...g.origins, ...behindLast] };
-}
-
-/**
- * Field by field as far as they go, as bytes.
- * @param {Uint8Array} bytes
- */
-function rawLines(bytes) {
-  const lines = [];
-  for (let at = 0; at < bytes.length || lines.length === 0;) {
-    const end = fieldAt(bytes, at)?.end ?? bytes.length;
-    lines.push(...bytesLines(bytes.subarray(at, end)));
-    at = Math.max(end, at + 1);
-  }
-  return lines;
-}
-
-/**
- * @param {Table} table
- */
-function headLines(table) {
-  const { names, counts } = table;
-  const list = (/** @type {string[]} */ of) => of.map(writtenName).join(', ');
-  const region = (/** @type {number} */ set) => members(set).map((q) => memberText(names.states, q)).join(', ') || '-';
-  return [
-    `cycle   ${table.cycle}`,
-    `inputs  ${list(names.inputs.slice(0, counts.inputs))}`.trimEnd(),
-    `outputs ${list(names.outputs.slice(0, counts.outputs))}`.trimEnd(),
-    `start   ${memberText(names.states, table.start)}`,
-    ...table.timers.map((timer, k) => `timer   ${writtenName(names.timers[k])} ${timer.length} over ${region(timer.region)}`),
-  ];
-}
-
-/**
- * @param {Table} table @param {number} q
- */
-function stateLines(table, q) {
-  const { names } = table;
-  const inputs = (/** @type {number} */ set) => members(set).map((i) => memberText(names.inputs, i)).join(', ');
-  const lines = ['', `state ${writtenName(names.states[q])}`, `    output ${memberText(names.outputs, table.outputs[q])}`];
-  const [hold, delayed] = [table.holds[q] ?? 0, table.delayed[q] ?? 0];
-  if (hold > 0 || delayed > 0) lines.push(`    hold ${hold}${delayed > 0 ? ` delays ${inputs(delayed)}` : ''}`);
-  for (const [k, timer] of table.timers.entries()) {
-    if (timer.delays[q] > 0) lines.push(`    ${writtenName(names.timers[k])} delays ${inputs(timer.delays[q])}`);
-  }
-  const targets = [...new Set(table.next[q])];
-  const led = targets.map((to) => table.next[q].flatMap((next, i) => (next === to ? [memberText(names.inputs, i)] : [])).join(', '));
-  const width = Math.max(0, ...led.map((names) => names.length));
-  return [...lines, ...targets.map((to, k) => `    ${led[k].padEnd(Math.min(width, 40))} -> ${memberText(names.states, to)}`)];
-}
-
-/**
- * Any bytes as the text of a table.
- * @param {Uint8Array} bytes @param {Names|null} [names]
- */
-export function writeTable(bytes, names) {
-  const table = decodeTable(bytes, names);
-  const lines = table
-    ? [...headLines(table), ...table.outputs.flatMap((_, q) => stateLines(table, q)), ...(table.rest.length > 0 ? ['', ...bytesLines(table.rest)] : [])]
-    : rawLines(bytes);
-  return ['krossvil table', ...lines].join('\n') + '\n';
 }

@@ -70,7 +70,8 @@ test('what is longer than the memory gets the same answer as the whole would', (
   const tooLong = { ok: false, number: 19, place: 0 };
   for (const length of [65537, 65538, 100000, 3000000]) {
     const bytes = new Uint8Array(length).fill(0x11);
-    for (const entry of ['checkJournal', 'checkShort', 'run', 'shorten', 'lengthen', 'salvage']) assert.deepEqual(library[entry](table, bytes), tooLong, entry);
+    const entries = ['checkJournal', 'checkShort', 'run', 'shorten', 'lengthen', 'salvage'];
+    for (const entry of entries) assert.deepEqual(library[entry](table, bytes), tooLong, entry);
     assert.deepEqual(library.reportAdd(table, bytes, newReport()), tooLong);
     assert.deepEqual(library.readStamped(bytes), tooLong);
   }

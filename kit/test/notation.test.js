@@ -47,11 +47,13 @@ test('long and broken bytes come back', () => {
 });
 
 test('a name may be a keyword, have spaces, quotation marks of other kinds, or markup', () => {
-  const strange = ['state', 'bytes', 'krossvil', 'a b', '<script>', "it's", '&amp;', '#1', '->', 'ü', '列車', '--', '0', '12', '-', '$(x)', '`', '\\', ',', 'held'];
+  const strange = ['state', 'bytes', 'krossvil', 'a b', '<script>', "it's", '&amp;', '#1', '->', 'ü', '列車', '--', '0', '12', '-', '$(x)',
+    '`', '\\', ',', 'held'];
   const run = drawRun(new Chance(1), library);
   for (let round = 0; round < 300; round++) {
     const chance = new Chance(round);
-    const names = { states: [...strange], inputs: [...strange].reverse(), outputs: [...strange], timers: ['output', 'hold', 'timer', 'cycle'] };
+    const timers = ['output', 'hold', 'timer', 'cycle'];
+    const names = { states: [...strange], inputs: [...strange].reverse(), outputs: [...strange], timers };
     const table = { ...run.table, ...tableOf(chance, strange.length), names };
     const bytes = encodeTable(table);
     comesBack(bytes, 'table', names);
@@ -81,14 +83,19 @@ test('names that cannot stand in a text are not written', () => {
   assert.ok(tableText(bytes, { states: ['a', 'a'], inputs: ['a', 'b'], outputs: ['N', 'T'], timers: [] }).includes('state q0'));
 });
 
-test('control and bidi characters are refused wherever they stand', () => {
-  for (const hidden of ['\u0000', '\u0007', '\u001b', '\u007f', '\u0085', '\u00ad', '\u061c', '\u200b', '\u200e', '\u2028', '\u202a', '\u202e', '\u2066', '\u2069', '\ufeff', '\ue000']) {
-    for (const [from, to] of [['state idle', `state "id${hidden}le"`], ['state idle', `state id${hidden}le`], ['inputs  no_train', `inputs  "${hidden}"`], ['# E:', `# ${hidden}`]]) {
-      const { mistakes, parts } = readText(sample('classroom').replace(from, to));
-      assert.equal(mistakes.length, 1, JSON.stringify([to, mistakes]));
-      assert.match(mistakes[0].says, /cannot be seen/);
-      assert.ok(parts.every(({ kind }) => kind !== 'table'));
-      assert.ok(!/[\u0000-\u0009\u000b-\u001f\u007f-\u009f\u202a-\u202e\u2066-\u2069]/.test(showMistakes({ mistakes, lines: [sample('classroom').replace(from, to)] })));
+const HIDDEN = [...'\u0000\u0007\u001b\u007f\u0085\u00ad\u061c\u200b\u200e\u2028\u202a\u202e\u2066\u2069\ufeff\ue000'];
+const UNPRINTED = /[\u0000-\u0009\u000b-\u001f\u007f-\u009f\u202a-\u202e\u2066-\u2069]/;
+
+test('control and bidi characters are refused wherever they stand, and are not printed', () => {
+  for (const hidden of HIDDEN) {
+    const places = [['state idle', `state "id${hidden}le"`], ['state idle', `state id${hidden}le`], ['inputs  no_train', `inputs  "${hidden}"`],
+      ['# E:', `# ${hidden}`]];
+    for (const [from, to] of places) {
+      const read = readText(sample('classroom').replace(from, to));
+      assert.equal(read.mistakes.length, 1, JSON.stringify([to, read.mistakes]));
+      assert.match(read.mistakes[0].says, /cannot be seen/);
+      assert.ok(read.parts.every(({ kind }) => kind !== 'table'));
+      assert.ok(!UNPRINTED.test(showMistakes(read)));
     }
   }
 });
@@ -202,13 +209,15 @@ test('a text may come as bytes, with a byte order mark and any line ends; other 
 
 test('texts damaged by chance: no exception, and what is read comes back', () => {
   const pool = EXAMPLES.map(({ name }) => sample(name));
-  const pieces = ['krossvil', '->', '"', ',', '#', '+', '-', '\n', ' ', '\t', '\u202e', '65536', '4294967296', 'state', 'hold', 'delays', 'bytes ff', 'timer', 'over', 'é', '\ud800'];
+  const pieces = ['krossvil', '->', '"', ',', '#', '+', '-', '\n', ' ', '\t', '\u202e', '65536', '4294967296', 'state', 'hold', 'delays',
+    'bytes ff', 'timer', 'over', 'é', '\ud800'];
   for (let round = 0; round < 4000; round++) {
     const chance = new Chance(round);
     let text = chance.pick(pool);
     for (let count = chance.between(1, 4); count > 0; count--) {
       const at = chance.below(text.length);
-      text = text.slice(0, at) + (chance.percent(60) ? chance.pick(pieces) : '') + text.slice(at + chance.below(chance.percent(80) ? 3 : 60));
+      const put = chance.percent(60) ? chance.pick(pieces) : '';
+      text = text.slice(0, at) + put + text.slice(at + chance.below(chance.percent(80) ? 3 : 60));
     }
     const read = readText(text);
     for (const { line, column, says } of read.mistakes) assert.ok(line >= 1 && line <= read.lines.length && column >= 1 && says.length > 0);

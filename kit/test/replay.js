@@ -1,6 +1,6 @@
 /**
- * Repeats calls of the native library, as kit/test/tap.c writes them, in WebAssembly, and compares the number that comes back, every byte of
- * every slice, and guard bytes around each; every 500th time all of the memory that is free.
+ * Repeats calls of the native library, as kit/test/tap.c writes them, in WebAssembly, and compares the number that comes back, every byte
+ * of every slice, and guard bytes around each; every 500th time all of the memory that is free.
  *
  *   node replay.js WASM CALLS [--changed] <stream
  *
@@ -150,7 +150,8 @@ const [path, least, fault] = process.argv.slice(2);
 const wasm = readFileSync(path);
 const { calls, differences } = replay(new Side(fault === '--changed' ? changed(wasm) : wasm));
 const all = [...calls.values()].reduce((sum, count) => sum + count, 0);
-const functions = WebAssembly.Module.exports(new WebAssembly.Module(wasm)).map(({ name }) => name).filter((name) => name.startsWith('krossvil_'));
+const exported = WebAssembly.Module.exports(new WebAssembly.Module(wasm)).map(({ name }) => name);
+const functions = exported.filter((name) => name.startsWith('krossvil_'));
 const uncalled = functions.filter((name) => !calls.has(name));
 differences.slice(0, 5).forEach((difference) => console.log(difference));
 if (fault !== '--changed') for (const name of functions) console.log(`${name}: ${calls.get(name) ?? 0} calls`);

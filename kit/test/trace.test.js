@@ -91,7 +91,8 @@ test('the machine that accepted records show has the numbers of the library', ()
       assert.equal(visits(trace).length - 1, moves);
       assert.equal(Math.max(0, ...trace.steps.map((step) => left(trace, step))), most);
       assert.equal(Math.max(0, ...ticks.map(({ record, before }) => record.time - before.cycleStart)), longest);
-      for (const step of trace.steps.filter(({ record }) => record.kind === 'test')) assert.equal(step.record.value, left(trace, step) > 0 ? 0 : 1);
+      const tests = trace.steps.filter(({ record }) => record.kind === 'test');
+      for (const step of tests) assert.equal(step.record.value, left(trace, step) > 0 ? 0 : 1);
       for (const { from, to } of inputs(trace)) assert.ok(to === null || from <= to);
       trace.table.timers.forEach((_, k) => regionVisits(trace, k).forEach(({ from, to }) => assert.ok(to === null || from <= to)));
     }
