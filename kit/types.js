@@ -142,7 +142,7 @@
 /**
  * trace.js exports
  *   traceJournal(library: Library, given: {table: Uint8Array, journal: Uint8Array, form?: Form, names?: Names}): Trace | null
- *       null if the table is refused: ask library.checkTable. Without `form` it is the one that the first byte shows.
+ *       null if the table is refused: ask library.checkTable. Without `form` it is the one that the first bytes show.
  *   traceStimulus(library: Library, given: {table: Uint8Array, stimulus: Uint8Array, names?: Names}): Trace | null
  *       only of a stimulus that the runtime refuses; of any other trace the journal that library.run gives.
  *       Its records before the refusal have the values that the runtime found.
@@ -162,18 +162,29 @@
 
 /**
  * explain.js exports
+ *   explainRefusal(refusal: Refusal, given: {tableBytes: Uint8Array, names?: Names, trace?: Trace}): Explanation
+ *       of any entry that takes a table: of the table itself, or of the journal or stimulus whose trace is given
  *   explainTable(bytes: Uint8Array, refusal: Refusal, names?: Names): Explanation
- *   explainRecords(...)  explainJournal(trace: Trace): Explanation
+ *   explainJournal(trace: Trace): Explanation       a trace that was refused, of a journal or of a stimulus
  *   explainReaction(table: Table, refusal: Refusal, question: {states: number, inputs: number, moves?: number}): Explanation
+ *   explainRoom(refusal: Refusal, given?: {bytes?: number, numbers?: number}): Explanation     30, 33, 34, 35
+ *   isTableRefusal(number: number): boolean
  *   narrate(trace: Trace, step: Step): string       one sentence for an accepted record: why it is so
+ *   MEANINGS: Map<number, string>                   every number in a few words
  *
  * @typedef {Object} Explanation
  * @property {string[]} sentences        what is wrong, with the names and numbers of the case
  * @property {string|null} slip          the usual slip, where one of the five errors of students is the likely cause
  * @property {SlipName|null} slipName
  * @property {number|null} wanted        for a 28 the value that the machine has
- * @property {{place: number, length: number}} blame   the bytes to point at
+ * @property {{place: number, length: number}} blame   the bytes to point at, in what was refused
  * @typedef {'hold-restarted'|'old-entry'|'hold-reached'|'wrong-instant'|'move-at-test'} SlipName
+ *
+ * answers.js exports, for what is no refusal
+ *   acceptanceLine(answer: Acceptance): string      the line of `checkjournal`;  refusalLine(refusal: Refusal): string
+ *   sayAcceptance(table: Table, answer: Acceptance): string[]
+ *   sayReaction(table, question, answer), sayPath(table, path), saySalvage(answer, explanation), sayConverted(changed),
+ *   sayDwell(table, report): string[]
  */
 
 /**
@@ -211,8 +222,10 @@
  *   tableText(bytes: Uint8Array, names?: Names|null): string
  *   recordsText(bytes: Uint8Array, form: Form, names?: Names|null, notes?: Map<number, string>): string
  *       `notes`: a comment for the record at a place
+ *   recordLine(record: Record, names: Names, width?: number): string     one record as a line
  *   originAt(part: Part, place: number): Origin|null     the smallest piece of text that gave the byte at the place
  *   showMistakes(text: Text, file?: string): string      file:line:column, the line, a caret
+ *   FORM_WORDS: the forms in a text's words, as `short journal`
  *
  * @typedef {Object} Text
  * @property {Part[]} parts              those that could be read
@@ -226,13 +239,18 @@
  *   decodeTable(bytes: Uint8Array, names?: Names|null): Table|null
  *   encodeTable(table: Table): Uint8Array
  *   decodeRecords(bytes: Uint8Array, form: Form): Record[]
+ *   recordBytes(form: Form, kind: Kind, written: number, value: number): number[]
  *   formOf(bytes: Uint8Array): 'table'|Form              what the first bytes show; it is a guess for broken ones
- *   plainNames(counts, timers: number): Names
+ *   FORMS: tags, widths and limits of the forms
+ * names.js: plainNames, fittingNames, quoted, listed, counted, numbered, thousands; sets.js: has, members, setOf, wholeSet
+ * examples.js: EXAMPLES, exampleFile
  */
 
 /**
  * library.js exports
  *   loadLibrary(wasm: BufferSource): Promise<Library>
+ *   newReport(): BigUint64Array                          a report of no journals
+ *   readReport(report: BigUint64Array, states: number, inputs: number): {journals, dwell: number[], pairs: number[][], entries: number[]}
  *
  * Every function answers {ok: true, ..} or {ok: false, number, place}.
  * @typedef {{ok: false, number: number, place: number}} Refused
