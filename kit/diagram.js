@@ -8,13 +8,16 @@
 import { circle, group, line, picture, rect } from './svg.js';
 import { axis, hatchPattern, inputLane, names, phaseBand, stateLanes, unread } from './diagram/backdrop.js';
 import { clockRows } from './diagram/clocks.js';
+import { cycleLimit, cycles } from './diagram/cycles.js';
 import { denseRecords } from './diagram/dense.js';
-import { answerWords, box, head, legend } from './diagram/frame.js';
+import { answerWords, head, legend } from './diagram/frame.js';
 import { Labels } from './diagram/labels.js';
 import { lanesFor } from './diagram/lanes.js';
 import { overview } from './diagram/overview.js';
-import { blockMarks, cycles, marked, records } from './diagram/records.js';
-import { axisBreak, cycleLimit, refusedLine, refusedMark, refusedWords } from './diagram/refused.js';
+import { blockMarks, marked } from './diagram/marks.js';
+import { records } from './diagram/records.js';
+import { refusalBox } from './diagram/refusal-box.js';
+import { axisBreak, refusedLine, refusedMark, refusedWords } from './diagram/refused.js';
 import { refusedStep, viewOf, xOf, yOf } from './diagram/view.js';
 
 /** @typedef {import('./types.js').Trace} Trace */
@@ -22,8 +25,7 @@ import { refusedStep, viewOf, xOf, yOf } from './diagram/view.js';
 /** @typedef {import('./diagram/view.js').Options} Options */
 
 /**
- * @param {Trace} trace
- * @param {Options} [options]
+ * @param {Trace} trace @param {Options} [options]
  * @returns {string}   an SVG file
  */
 export function diagram(trace, options = {}) {
@@ -33,7 +35,7 @@ export function diagram(trace, options = {}) {
   const lanes = lanesFor(trace.table, bare.sizes, top.height + strip.height);
   /** @type {View} */
   const view = { ...bare, lanes };
-  const words = box(view, lanes.bottom + 24);
+  const words = refusalBox(view, lanes.bottom + 24);
   const foot = lanes.bottom + (words.height > 0 ? words.height + 36 : 8);
   const below = legend(view, foot);
   const about = {

@@ -26,8 +26,7 @@ import { inTurn, THEMES } from './theme.js';
 
 /**
  * The numbers that krossvil_report_add adds to, taken apart.
- * @param {ArrayLike<bigint>} numbers
- * @param {{states: number, inputs: number}} counts
+ * @param {ArrayLike<bigint>} numbers @param {{states: number, inputs: number}} counts
  * @returns {Report}
  */
 export function reportOf(numbers, { states, inputs }) {
@@ -41,22 +40,15 @@ export function reportOf(numbers, { states, inputs }) {
   };
 }
 
-/**
- * @param {bigint} number
- */
+/** @param {bigint} number */
 const grouped = (number) => String(number).replace(/\B(?=(\d{3})+$)/g, ',');
 
-/**
- * @param {bigint} number
- * @param {string} one
- * @param {string} many
- */
+/** @param {bigint} number @param {string} one @param {string} many */
 const counted = (number, one, many) => `${grouped(number)} ${number === 1n ? one : many}`;
 
 /**
  * How much a number is of another, from 0 to 1.
- * @param {bigint} part
- * @param {bigint} whole
+ * @param {bigint} part @param {bigint} whole
  */
 const share = (part, whole) => (whole === 0n ? 0 : Number(part * 1000000n / whole) / 1000000);
 
@@ -73,9 +65,7 @@ const share = (part, whole) => (whole === 0n ? 0 : Number(part * 1000000n / whol
  */
 
 /**
- * @param {Report} report
- * @param {Names} names
- * @param {Options} options
+ * @param {Report} report @param {Names} names @param {Options} options
  * @returns {Plan}
  */
 function planOf(report, names, options) {
@@ -90,17 +80,14 @@ function planOf(report, names, options) {
 }
 
 /**
- * @param {Report} report
- * @param {number} state
+ * @param {Report} report @param {number} state
  */
 function numbersOf({ dwell, entries }, state) {
   return `${counted(dwell[state], 'slot', 'slots')}, ${counted(entries[state], 'entry', 'entries')}`;
 }
 
 /**
- * @param {Report} report
- * @param {Names} names
- * @param {Options} [options]
+ * @param {Report} report @param {Names} names @param {Options} [options]
  * @returns {string}   an SVG file
  */
 export function dwellPlot(report, names, options = {}) {
@@ -119,9 +106,7 @@ export function dwellPlot(report, names, options = {}) {
 }
 
 /**
- * @param {Plan} plan
- * @param {number} state
- * @param {number} y
+ * @param {Plan} plan @param {number} state @param {number} y
  */
 function row(plan, state, y) {
   const { report, names, theme, narrow, left, room, width, longest } = plan;
@@ -141,9 +126,7 @@ function row(plan, state, y) {
 
 /**
  * A state's slots, input after input.
- * @param {Plan} plan
- * @param {number} state
- * @param {{y: number, height: number}} bar
+ * @param {Plan} plan @param {number} state @param {{y: number, height: number}} bar
  */
 function bars({ report, names, theme, left, room, longest }, state, { y, height }) {
   let before = 0n;
@@ -162,8 +145,7 @@ function bars({ report, names, theme, left, room, longest }, state, { y, height 
 
 /**
  * The inputs that have slots.
- * @param {Plan} plan
- * @param {number} y
+ * @param {Plan} plan @param {number} y
  */
 function legend({ report, names, theme, width }, y) {
   const used = names.inputs.map((_, input) => input).filter((input) => report.pairs.some((slots) => slots[input] > 0n));

@@ -6,7 +6,10 @@
  * Characters that a person cannot see or that turn the text around them: controls, lone surrogates, line separators, joiners,
  * marks of direction, tags, and what XML has no place for. They are shown as U+FFFD.
  */
-const UNSEEN = /[\u0000-\u001f\u007f-\u009f\u00ad\u061c\u180e\u200b-\u200f\u2028-\u202e\u2060-\u206f\ud800-\udfff\ufeff\ufff0-\ufffb\ufffe\uffff\u{e0000}-\u{e0fff}]/gu;
+const UNSEEN = new RegExp([
+  '[\\u0000-\\u001f\\u007f-\\u009f\\u00ad\\u061c\\u180e\\u200b-\\u200f\\u2028-\\u202e\\u2060-\\u206f]',
+  '[\\ud800-\\udfff\\ufeff\\ufff0-\\ufffb\\ufffe\\uffff\\u{e0000}-\\u{e0fff}]',
+].join('|'), 'gu');
 
 /**
  * The text with every unseen character made visible.

@@ -64,9 +64,7 @@ function contentText(content) {
 
 /**
  * An element. Names of elements and attributes are the program's own.
- * @param {string} name
- * @param {Attributes} attributes
- * @param {...Content} content
+ * @param {string} name @param {Attributes} attributes @param {...Content} content
  * @returns {Markup}
  */
 export function element(name, attributes, ...content) {
@@ -75,54 +73,29 @@ export function element(name, attributes, ...content) {
   return new Markup(inner === '' ? `${start}/>` : `${start}>${inner}</${name}>`);
 }
 
-/**
- * @param {Attributes} attributes
- * @param {...Content} content
- */
+/** @param {Attributes} attributes @param {...Content} content */
 export const group = (attributes, ...content) => element('g', attributes, ...content);
 
-/**
- * @param {number} x
- * @param {number} y
- * @param {number} width
- * @param {number} height
- * @param {Attributes} [more]
- */
+/** @param {number} x @param {number} y @param {number} width @param {number} height @param {Attributes} [more] */
 export const rect = (x, y, width, height, more = {}) => element('rect', { x, y, width: Math.max(width, 0), height, ...more });
 
 /**
- * @param {number} x1
- * @param {number} y1
- * @param {number} x2
- * @param {number} y2
- * @param {string} stroke
- * @param {number} [width]
+ * @param {number} x1 @param {number} y1 @param {number} x2 @param {number} y2 @param {string} stroke @param {number} [width]
  * @param {Attributes} [more]
  */
 export const line = (x1, y1, x2, y2, stroke, width = 1, more = {}) =>
   element('line', { x1, y1, x2, y2, stroke, 'stroke-width': width, ...more });
 
-/**
- * @param {number} cx
- * @param {number} cy
- * @param {number} r
- * @param {Attributes} [more]
- */
+/** @param {number} cx @param {number} cy @param {number} r @param {Attributes} [more] */
 export const circle = (cx, cy, r, more = {}) => element('circle', { cx, cy, r, ...more });
 
-/**
- * @param {string} d
- * @param {Attributes} [more]
- */
+/** @param {string} d @param {Attributes} [more] */
 export const path = (d, more = {}) => element('path', { d, ...more });
 
 /**
  * A line of text; `y` is its base line.
- * @param {number} x
- * @param {number} y
- * @param {string} content
- * @param {{size: number, fill: string, anchor?: 'start'|'middle'|'end', bold?: boolean}} style
- * @param {Attributes} [more]
+ * @param {number} x @param {number} y @param {string} content
+ * @param {{size: number, fill: string, anchor?: 'start'|'middle'|'end', bold?: boolean}} style @param {Attributes} [more]
  */
 export function text(x, y, content, style, more = {}) {
   if (content === '') return new Markup('');

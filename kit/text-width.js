@@ -36,10 +36,7 @@ export function widthOf(text, size, bold = false) {
 
 /**
  * The text, or its beginning and an ellipsis, or nothing: whatever the room takes.
- * @param {string} text
- * @param {number} room
- * @param {number} size
- * @param {boolean} [bold]
+ * @param {string} text @param {number} room @param {number} size @param {boolean} [bold]
  * @returns {string}
  */
 export function fit(text, room, size, bold = false) {
@@ -57,9 +54,7 @@ export function fit(text, room, size, bold = false) {
 /**
  * The first of the texts that the room takes; the last one cut to it if none is short enough.
  * @param {string[]} texts   the best first
- * @param {number} room
- * @param {number} size
- * @param {boolean} [bold]
+ * @param {number} room @param {number} size @param {boolean} [bold]
  * @returns {string}
  */
 export function firstThatFits(texts, room, size, bold = false) {
@@ -68,10 +63,7 @@ export function firstThatFits(texts, room, size, bold = false) {
 
 /**
  * The text in lines. A word that is wider than a line is broken.
- * @param {string} text
- * @param {number} room
- * @param {number} size
- * @param {boolean} [bold]
+ * @param {string} text @param {number} room @param {number} size @param {boolean} [bold]
  * @returns {string[]}
  */
 export function wrap(text, room, size, bold = false) {
@@ -87,10 +79,7 @@ export function wrap(text, room, size, bold = false) {
 
 /**
  * A word, broken where it is wider than a line.
- * @param {string} word
- * @param {number} room
- * @param {number} size
- * @param {boolean} bold
+ * @param {string} word @param {number} room @param {number} size @param {boolean} bold
  * @returns {string[]}
  */
 function pieces(word, room, size, bold) {

@@ -56,8 +56,7 @@ export const THEMES = { light: LIGHT, dark: DARK };
 
 /**
  * A colour for each number: the ones given, then the same with other hues.
- * @param {string[]} colours
- * @param {number} number
+ * @param {string[]} colours @param {number} number
  * @returns {string}
  */
 export function inTurn(colours, number) {

@@ -17,15 +17,22 @@ const PHASES = ['before_poll', 'before_test', 'held', 'free'];
 
 /** @type {Signal[]} */
 const SIGNALS = [
-  ...['input', 'polled', 'verdict', 'state', 'output', 'phase'].map((name) => ({ name, type: /** @type {const} */ ('string'), width: 1, scope: 'run' })),
-  { name: 'cycle', type: 'wire', width: 32, scope: 'run' },
-  { name: 'left', type: 'wire', width: 32, scope: 'run' },
-  { name: 'refused', type: 'wire', width: 1, scope: 'run' },
-  ...['change', 'poll', 'test', 'tick'].map((name) => ({ name, type: /** @type {const} */ ('event'), width: 1, scope: 'records' })),
-  ...['input', 'polled', 'state', 'output'].map((name) => ({ name: `${name}_number`, type: /** @type {const} */ ('wire'), width: 5, scope: 'numbers' })),
-  { name: 'phase_number', type: 'wire', width: 2, scope: 'numbers' },
-  { name: 'verdict_number', type: 'wire', width: 1, scope: 'numbers' },
+  ...signals('run', 'string', 1, ['input', 'polled', 'verdict', 'state', 'output', 'phase']),
+  ...signals('run', 'wire', 32, ['cycle', 'left']),
+  ...signals('run', 'wire', 1, ['refused']),
+  ...signals('records', 'event', 1, ['change', 'poll', 'test', 'tick']),
+  ...signals('numbers', 'wire', 5, ['input_number', 'polled_number', 'state_number', 'output_number']),
+  ...signals('numbers', 'wire', 2, ['phase_number']),
+  ...signals('numbers', 'wire', 1, ['verdict_number']),
 ];
+
+/**
+ * @param {string} scope @param {Signal['type']} type @param {number} width @param {string[]} names
+ * @returns {Signal[]}
+ */
+function signals(scope, type, width, names) {
+  return names.map((name) => ({ name, type, width, scope }));
+}
 
 /** @type {Map<string, Signal & {code: string}>} */
 const BY_NAME = new Map(SIGNALS.map((signal, k) => [signal.name, { ...signal, code: String.fromCharCode(33 + k) }]));
@@ -46,8 +53,7 @@ function header(unit) {
 
 /**
  * A value as the dump has it; `x` stands for one that is not there yet.
- * @param {string} name
- * @param {string|number|null} value
+ * @param {string} name @param {string|number|null} value
  */
 function change(name, value) {
   const signal = BY_NAME.get(name);
@@ -60,9 +66,7 @@ function change(name, value) {
 
 /**
  * All values after an accepted record. Polled input and verdict are those of this cycle.
- * @param {Trace} trace
- * @param {Step} step
- * @param {number} cycle
+ * @param {Trace} trace @param {Step} step @param {number} cycle
  * @returns {Record<string, string|number|null>}
  */
 function valuesOf(trace, step, cycle) {
@@ -73,7 +77,7 @@ function valuesOf(trace, step, cycle) {
   const verdict = machine.phase === 2 ? 0 : machine.phase === 3 ? 1 : null;
   const output = table.outputs[machine.state];
   return {
-    input: nameOf(names.inputs, machine.present), polled: nameOf(names.inputs, polled), verdict: verdict === null ? '' : ['held', 'free'][verdict],
+    input: nameOf(names.inputs, machine.present), polled: nameOf(names.inputs, polled), verdict: nameOf(['held', 'free'], verdict),
     state: nameOf(names.states, machine.state), output: nameOf(names.outputs, output), phase: PHASES[machine.phase],
     cycle, refused: 0, input_number: machine.present, polled_number: polled, state_number: machine.state, output_number: output,
     phase_number: machine.phase, verdict_number: verdict,

@@ -2,11 +2,10 @@
  * The automaton as DOT, for Graphviz: what automaton.js draws, laid out by others.
  */
 import { escapeXml, quoteDot } from '../escape.js';
-import { thousands } from '../names.js';
-import { members } from '../sets.js';
 import { nameOf } from '../name-of.js';
 import { LIGHT } from '../theme.js';
 import { edgesOf, wordsOf } from './graph.js';
+import { notes } from './notes.js';
 
 /** @typedef {import('../types.js').Table} Table */
 /** @typedef {import('../types.js').Names} Names */
@@ -14,9 +13,7 @@ import { edgesOf, wordsOf } from './graph.js';
 const FACE = 'fontname="DejaVu Sans"';
 
 /**
- * @param {Table} table
- * @param {Names} names
- * @param {number} state
+ * @param {Table} table @param {Names} names @param {number} state
  */
 function node(table, names, state) {
   const { output, name, holds } = wordsOf(table, names, state);
@@ -27,29 +24,25 @@ function node(table, names, state) {
 }
 
 /**
- * @param {Names} names
- * @param {import('./graph.js').Edge} edge
+ * @param {Names} names @param {import('./graph.js').Edge} edge
  */
 function arrow(names, { from, to, free, delayed }) {
   const list = (/** @type {number[]} */ inputs) => inputs.map((input) => nameOf(names.inputs, input)).join(', ');
-  const line = (/** @type {number[]} */ inputs, /** @type {string} */ style) => (inputs.length === 0 ? [] : [`  s${from} -> s${to} [label=${quoteDot(list(inputs))}${style}];`]);
+  const line = (/** @type {number[]} */ inputs, /** @type {string} */ style) =>
+    (inputs.length === 0 ? [] : [`  s${from} -> s${to} [label=${quoteDot(list(inputs))}${style}];`]);
   return [...line(free, ''), ...line(delayed, `, style=dashed, color="${LIGHT.held}", fontcolor="${LIGHT.held}"`)];
 }
 
 /**
  * Regions may overlap, which clusters of Graphviz may not; so they are named below the picture.
- * @param {Table} table
- * @param {Names} names
+ * @param {Table} table @param {Names} names
  */
 function caption(table, names) {
-  const timers = table.timers.map((timer, k) => `timer ${nameOf(names.timers, k)}: ${thousands(timer.length)} from the entry into ` +
-    (members(timer.region).map((state) => nameOf(names.states, state)).join(', ') || 'no state'));
-  return [`cycle at most ${thousands(table.cycle)}`, ...timers].map((line) => quoteDot(line).slice(1, -1)).join('\\n');
+  return notes(table, names).map((note) => quoteDot(note).slice(1, -1)).join('\\n');
 }
 
 /**
- * @param {Table} table
- * @param {{loops?: boolean, names?: Names}} [options]
+ * @param {Table} table @param {{loops?: boolean, names?: Names}} [options]
  * @returns {string}
  */
 export function automatonDot(table, options = {}) {

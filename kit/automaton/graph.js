@@ -1,7 +1,7 @@
 /**
  * A table as a graph: one edge for each state and each state that it leads to, with the inputs that lead there.
  */
-import { clocks } from '../trace.js';
+import { delayedIn } from '../delayed-in.js';
 import { has, members } from '../sets.js';
 import { nameOf } from '../name-of.js';
 
@@ -15,19 +15,6 @@ import { nameOf } from '../name-of.js';
  * @property {number[]} free      the inputs that lead there at once
  * @property {number[]} delayed   the inputs that lead there when the hold is passed
  */
-
-/**
- * The inputs that something delays in a state.
- * @param {Table} table
- * @param {number} state
- * @returns {number}  a set
- */
-export function delayedIn(table, state) {
-  const machine = {
-    state, entry: 0, regionEntries: table.timers.map(() => 0), phase: /** @type {const} */ (0), present: 0, polled: 0, polledAt: 0, change: 0, cycleStart: 0,
-  };
-  return clocks(table, machine).reduce((set, clock) => set | clock.delays, 0) >>> 0;
-}
 
 /**
  * @param {Table} table
@@ -52,9 +39,7 @@ export function edgesOf(table) {
 
 /**
  * What stands in a state: its output, its name, and its hold with the inputs that it delays.
- * @param {Table} table
- * @param {Names} names
- * @param {number} state
+ * @param {Table} table @param {Names} names @param {number} state
  * @returns {Words}
  */
 export function wordsOf(table, names, state) {

@@ -23,29 +23,23 @@ import { distance, pointAt } from './route.js';
 const STEPS = [0.5, 0.42, 0.58, 0.34, 0.66, 0.26, 0.74, 0.2, 0.8];
 
 /**
- * @param {Point} middle
- * @param {{width: number, height: number}} size
+ * @param {Point} middle @param {{width: number, height: number}} size
  * @returns {Box}
  */
-const around = (middle, size) => ({ x: middle.x - size.width / 2 - 2, y: middle.y - size.height / 2 - 1, width: size.width + 4, height: size.height + 2 });
+const around = (middle, { width, height }) => ({ x: middle.x - width / 2 - 2, y: middle.y - height / 2 - 1, width: width + 4, height: height + 2 });
 
-/**
- * @param {Box} box
- * @param {Point} point
- */
+/** @param {Box} box @param {Point} point */
 const holds = (box, point) => point.x > box.x && point.x < box.x + box.width && point.y > box.y && point.y < box.y + box.height;
 
 /**
- * @param {Box} box
- * @param {number} by
+ * @param {Box} box @param {number} by
  * @returns {Box}
  */
 const wider = (box, by) => ({ x: box.x - by, y: box.y - by, width: box.width + 2 * by, height: box.height + 2 * by });
 
 /**
  * What stands in the way of a word. A word keeps further away from edges that are not its own, so that one sees whose it is.
- * @param {Box} box
- * @param {Obstacles} obstacles
+ * @param {Box} box @param {Obstacles} obstacles
  * @param {Point[]} own     points along its own edge
  */
 function disturbance(box, { places, radius, lines, boxes }, own) {
@@ -62,9 +56,7 @@ function disturbance(box, { places, radius, lines, boxes }, own) {
 
 /**
  * The middle of an edge's words.
- * @param {Route} route
- * @param {{width: number, height: number}} size
- * @param {Obstacles} obstacles
+ * @param {Route} route @param {{width: number, height: number}} size @param {Obstacles} obstacles
  * @returns {Spot}
  */
 export function besideEdge(route, size, obstacles) {
@@ -84,9 +76,7 @@ export function besideEdge(route, size, obstacles) {
 
 /**
  * The middle of a loop's words: behind its tip, or beside it.
- * @param {Loop} loop
- * @param {{width: number, height: number}} size
- * @param {Obstacles} obstacles
+ * @param {Loop} loop @param {{width: number, height: number}} size @param {Obstacles} obstacles
  * @returns {Spot}
  */
 export function besideLoop(loop, size, obstacles) {

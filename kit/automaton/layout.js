@@ -19,6 +19,7 @@ import { edgeLabel, radiusFor } from './words.js';
  * @property {import('./graph.js').Words[]} words
  * @property {Point[]} places
  * @property {{from: Point, to: Point, angle: number}} arrow
+ * @property {import('./labels.js').Box} frame    what the picture needs, without the notes below it
  * @property {{edge: import('./graph.js').Edge, route: import('./route.js').Route, label: import('./labels.js').Spot}[]} edges
  * @property {{edge: import('./graph.js').Edge, loop: import('./loops.js').Loop, label: import('./labels.js').Spot}[]} loops
  */
@@ -49,14 +50,14 @@ function flowOf(table) {
 function graphOf(table, edges) {
   const keys = new Set(edges.map(({ from, to }) => Math.min(from, to) * 32 + Math.max(from, to)));
   const pairs = [...keys].map((key) => /** @type {[number, number]} */ ([key >> 5, key & 31]));
-  const groups = table.timers.map((timer) => members(timer.region).filter((state) => state < table.counts.states)).filter((group) => group.length > 1);
-  return { count: table.counts.states, start: table.start, pairs, flow: flowOf(table), groups };
+  const groups = table.timers.map((timer) => members(timer.region).filter((state) => state < table.counts.states));
+  const shared = groups.filter((group) => group.length > 1);
+  return { count: table.counts.states, start: table.start, pairs, flow: flowOf(table), groups: shared };
 }
 
 /**
  * As many columns as the width takes, in a shape that is wider than high.
- * @param {number} count
- * @param {number} radius
+ * @param {number} count @param {number} radius
  * @param {number} widest    of the words at edges
  * @param {number} width
  * @returns {import('./place.js').Grid}
@@ -70,10 +71,31 @@ function gridFor(count, radius, widest, width) {
   return { columns, rows: Math.max(1, Math.ceil((count + spare) / columns)), dx, dy, clear: radius + 10 };
 }
 
+/** Around states, for regions and badges; and around all. */
+const MARGIN = 14;
+
 /**
- * @param {Table} table
- * @param {Names} names
- * @param {{width: number, loops: boolean}} wanted
+ * The picture's outer edges.
+ * @param {Omit<Layout, 'frame'>} layout
+ * @returns {import('./labels.js').Box}
+ */
+function frameOf({ places, radius, edges, loops, arrow }) {
+  const points = [...edges.flatMap(({ route }) => route.points), ...loops.flatMap(({ loop }) => loop.points), arrow.from];
+  const boxes = [
+    ...places.map(({ x, y }) => ({ x, y, width: 2 * (radius + MARGIN), height: 2 * (radius + MARGIN) })),
+    ...points.map((point) => ({ ...point, width: 0, height: 0 })),
+    ...[...edges, ...loops].map(({ label }) => label),
+  ];
+  const side = (/** @type {(box: import('./labels.js').Spot) => number} */ of) => boxes.map(of);
+  const x = Math.min(...side((box) => box.x - box.width / 2)) - MARGIN;
+  const y = Math.min(...side((box) => box.y - box.height / 2)) - MARGIN;
+  const right = Math.max(...side((box) => box.x + box.width / 2)) + MARGIN;
+  const bottom = Math.max(...side((box) => box.y + box.height / 2)) + MARGIN;
+  return { x, y, width: right - x, height: bottom - y };
+}
+
+/**
+ * @param {Table} table @param {Names} names @param {{width: number, loops: boolean}} wanted
  * @returns {Layout}
  */
 export function layoutOf(table, names, { width, loops: withLoops }) {
@@ -90,9 +112,10 @@ export function layoutOf(table, names, { width, loops: withLoops }) {
   const curls = loops.map((edge) => loopAt(edge.from, drawn, edge.from === table.start ? [arrow.angle] : [], arrow.from));
   const lines = [...drawn.routes.map((route) => route.points), ...curls.map((loop) => loop.points), [arrow.from, arrow.to]];
   const obstacles = { places, radius, lines, boxes: [] };
-  return {
+  const layout = {
     radius, words, places, arrow,
     edges: edges.map((edge, k) => ({ edge, route: drawn.routes[k], label: besideEdge(drawn.routes[k], size(edge), obstacles) })),
     loops: loops.map((edge, k) => ({ edge, loop: curls[k], label: besideLoop(curls[k], size(edge), obstacles) })),
   };
+  return { ...layout, frame: frameOf(layout) };
 }

@@ -18,9 +18,7 @@ import { distance } from './route.js';
  */
 
 /**
- * @param {Point} from
- * @param {number} angle
- * @param {number} length
+ * @param {Point} from @param {number} angle @param {number} length
  * @returns {Point}
  */
 export function along(from, angle, length) {
@@ -32,8 +30,7 @@ const DIRECTIONS = Array.from({ length: 24 }, (_, k) => -Math.PI + k * Math.PI /
 
 /**
  * How far two directions are apart.
- * @param {number} a
- * @param {number} b
+ * @param {number} a @param {number} b
  */
 function apart(a, b) {
   const turn = Math.abs(a - b) % (2 * Math.PI);
@@ -42,9 +39,7 @@ function apart(a, b) {
 
 /**
  * The direction in which most room is left, near to the one that is liked.
- * @param {number} state
- * @param {{places: Point[], routes: Route[], radius: number}} drawn
- * @param {number} liked
+ * @param {number} state @param {{places: Point[], routes: Route[], radius: number}} drawn @param {number} liked
  * @param {number} length     how far it sticks out
  * @param {number[]} taken    directions that are used already
  * @param {Point[]} points    other things in the way
@@ -66,8 +61,7 @@ function freeDirection(state, { places, routes, radius }, liked, length, taken, 
 
 /**
  * The arrow to the initial state, from the left if there is room.
- * @param {number} state
- * @param {{places: Point[], routes: Route[], radius: number}} drawn
+ * @param {number} state @param {{places: Point[], routes: Route[], radius: number}} drawn
  */
 export function startArrow(state, drawn) {
   const angle = freeDirection(state, drawn, Math.PI, 40, [], []);
@@ -75,9 +69,7 @@ export function startArrow(state, drawn) {
 }
 
 /**
- * @param {number} state
- * @param {{places: Point[], routes: Route[], radius: number}} drawn
- * @param {number[]} taken
+ * @param {number} state @param {{places: Point[], routes: Route[], radius: number}} drawn @param {number[]} taken
  * @param {Point} arrow     where the initial state's arrow begins
  * @returns {Loop}
  */

@@ -42,8 +42,7 @@ function dice(seed) {
 
 class Board {
   /**
-   * @param {Graph} graph
-   * @param {Grid} grid
+   * @param {Graph} graph @param {Grid} grid
    */
   constructor(graph, grid) {
     this.graph = graph;
@@ -61,8 +60,7 @@ class Board {
   }
 
   /**
-   * @param {number} state
-   * @param {number} cell
+   * @param {number} state @param {number} cell
    */
   put(state, cell) {
     this.cells[cell] = state;
@@ -72,8 +70,7 @@ class Board {
   }
 
   /**
-   * @param {number} one
-   * @param {number} other
+   * @param {number} one @param {number} other
    */
   swap(one, other) {
     const [a, b] = [this.cells[one], this.cells[other]];
@@ -83,9 +80,7 @@ class Board {
 
   /**
    * Which side of the line from a to b the state c lies on.
-   * @param {number} a
-   * @param {number} b
-   * @param {number} c
+   * @param {number} a @param {number} b @param {number} c
    */
   side(a, b, c) {
     return (this.x[b] - this.x[a]) * (this.y[c] - this.y[a]) - (this.y[b] - this.y[a]) * (this.x[c] - this.x[a]);
@@ -106,8 +101,7 @@ class Board {
 
   /**
    * Does the edge between a pair come too near to a state?
-   * @param {number} k
-   * @param {number} state
+   * @param {number} k @param {number} state
    */
   passes(k, state) {
     const a = this.one[k];
@@ -165,8 +159,10 @@ class Board {
   spread(group) {
     const [xs, ys] = [group.map((state) => this.x[state]), group.map((state) => this.y[state])];
     const [left, right, top, bottom] = [Math.min(...xs), Math.max(...xs), Math.min(...ys), Math.max(...ys)];
-    const inside = [...this.x.keys()].filter((state) => this.x[state] >= left && this.x[state] <= right && this.y[state] >= top && this.y[state] <= bottom);
-    return (right - left) / this.grid.dx + (bottom - top) / this.grid.dy + 3 * (inside.length - group.length);
+    const isInside = (/** @type {number} */ state) =>
+      this.x[state] >= left && this.x[state] <= right && this.y[state] >= top && this.y[state] <= bottom;
+    const inside = [...this.x.keys()].filter(isInside).length;
+    return (right - left) / this.grid.dx + (bottom - top) / this.grid.dy + 3 * (inside - group.length);
   }
 
   cost() {
@@ -179,10 +175,13 @@ class Board {
     return cost;
   }
 
+  copy() {
+    return { cost: this.cost(), x: this.x.slice(), y: this.y.slice() };
+  }
+
   /**
    * What changes with the states in two cells.
-   * @param {number} one
-   * @param {number} other
+   * @param {number} one @param {number} other
    */
   localCost(one, other) {
     const [a, b] = [this.cells[one], this.cells[other]];
@@ -192,17 +191,14 @@ class Board {
 
 /**
  * One annealing.
- * @param {Graph} graph
- * @param {Grid} grid
- * @param {number} seed
- * @param {number} moves
+ * @param {Graph} graph @param {Grid} grid @param {number} seed @param {number} moves
  */
 function anneal(graph, grid, seed, moves) {
   const board = new Board(graph, grid);
   const roll = dice(seed);
   const cell = () => Math.floor(roll() * board.cells.length);
   for (let k = 0; k < board.cells.length; k++) board.swap(cell(), cell());
-  let best = { cost: Infinity, x: board.x.slice(), y: board.y.slice() };
+  let best = board.copy();
   for (let move = 0; move < moves; move++) {
     const [one, other, heat] = [cell(), cell(), 4 * (1 - move / moves) ** 2 + 0.01];
     if (one === other || (board.cells[one] < 0 && board.cells[other] < 0)) continue;
@@ -210,9 +206,9 @@ function anneal(graph, grid, seed, moves) {
     board.swap(one, other);
     const worse = board.localCost(one, other) - before;
     if (worse > 0 && roll() > Math.exp(-worse / heat)) board.swap(one, other);
-    else if (move > moves * 0.6 && worse < 0 && board.cost() < best.cost - 1e-9) best = { cost: board.cost(), x: board.x.slice(), y: board.y.slice() };
+    else if (move > moves * 0.6 && worse < 0 && board.cost() < best.cost - 1e-9) best = board.copy();
   }
-  return best.cost === Infinity ? { cost: board.cost(), x: board.x, y: board.y } : best;
+  return best;
 }
 
 /** How much work one picture may take, in comparisons of edges. */
@@ -220,8 +216,7 @@ const EFFORT = 1.5e7;
 
 /**
  * The best of several annealings. The corner at the top left is at 0, 0.
- * @param {Graph} graph
- * @param {Grid} grid
+ * @param {Graph} graph @param {Grid} grid
  * @returns {{x: number, y: number}[]}
  */
 export function place(graph, grid) {
@@ -229,7 +224,7 @@ export function place(graph, grid) {
   const work = Math.max(20, 4 * degree * (graph.pairs.length + graph.count));
   const tries = graph.count <= 3 ? 2 : 4;
   const moves = Math.ceil(Math.min(600 * graph.count, EFFORT / work / tries));
-  const found = Array.from({ length: tries }, (_, k) => anneal(graph, grid, 7919 * (k + 1), moves)).sort((a, b) => a.cost - b.cost)[0];
+  const found = Array.from({ length: tries }, (_, k) => anneal(graph, grid, 7919 * (k + 1), moves)).reduce((a, b) => (b.cost < a.cost ? b : a));
   const [left, top] = [Math.min(...found.x), Math.min(...found.y)];
   return Array.from(found.x, (x, state) => ({ x: x - left, y: found.y[state] - top }));
 }

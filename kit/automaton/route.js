@@ -22,18 +22,12 @@
 const PIECES = 16;
 const BENDS = [0, 24, -24, 52, -52, 90, -90, 140, -140, 200, -200];
 
-/**
- * @param {Point} a
- * @param {Point} b
- */
+/** @param {Point} a @param {Point} b */
 export const distance = (a, b) => Math.hypot(a.x - b.x, a.y - b.y);
 
 /**
  * A point of the curve with the corners a, c and b.
- * @param {Point} a
- * @param {Point} c
- * @param {Point} b
- * @param {number} t
+ * @param {Point} a @param {Point} c @param {Point} b @param {number} t
  * @returns {Point}
  */
 export function pointAt(a, c, b, t) {
@@ -43,10 +37,7 @@ export function pointAt(a, c, b, t) {
 
 /**
  * Where the curve leaves the circle around its beginning.
- * @param {Point} a
- * @param {Point} c
- * @param {Point} b
- * @param {number} radius
+ * @param {Point} a @param {Point} c @param {Point} b @param {number} radius
  */
 function leaving(a, c, b, radius) {
   let [inside, outside] = [0, 0.5];
@@ -60,10 +51,7 @@ function leaving(a, c, b, radius) {
 
 /**
  * The curve between two circles. `bend` is how far its middle lies to the left of the straight line.
- * @param {{from: number, to: number}} edge
- * @param {Point[]} places
- * @param {number} radius
- * @param {number} bend
+ * @param {{from: number, to: number}} edge @param {Point[]} places @param {number} radius @param {number} bend
  * @returns {Route}
  */
 export function curve({ from, to }, places, radius, bend) {
@@ -80,10 +68,7 @@ export function curve({ from, to }, places, radius, bend) {
 }
 
 /**
- * @param {Point} a
- * @param {Point} b
- * @param {Point} c
- * @param {Point} d
+ * @param {Point} a @param {Point} b @param {Point} c @param {Point} d
  */
 function segmentsCross(a, b, c, d) {
   return side(a, b, c) * side(a, b, d) < 0 && side(c, d, a) * side(c, d, b) < 0;
@@ -91,11 +76,9 @@ function segmentsCross(a, b, c, d) {
 
 /**
  * Which side of the line from p to q the point r lies on.
- * @param {Point} p
- * @param {Point} q
- * @param {Point} r
+ * @param {Point} p @param {Point} q @param {Point} r
  */
-function side(p, q, r) {
+export function side(p, q, r) {
   return (q.x - p.x) * (r.y - p.y) - (q.y - p.y) * (r.x - p.x);
 }
 
@@ -109,8 +92,7 @@ function boundsOf(points) {
 }
 
 /**
- * @param {Bounds} a
- * @param {Bounds} b
+ * @param {Bounds} a @param {Bounds} b
  * @param {number} by    how far they may be apart
  */
 function near(a, b, by) {
@@ -119,8 +101,7 @@ function near(a, b, by) {
 
 /**
  * How often two curves cross.
- * @param {Route} one
- * @param {Route} other
+ * @param {Route} one @param {Route} other
  */
 export function crossings(one, other) {
   if (!near(one.bounds, other.bounds, 0)) return 0;
@@ -135,9 +116,7 @@ export function crossings(one, other) {
 
 /**
  * How much a curve comes too near to states that are not its own.
- * @param {Route} route
- * @param {Point[]} places
- * @param {number} radius
+ * @param {Route} route @param {Point[]} places @param {number} radius
  */
 function nearness(route, places, radius) {
   let cost = 0;
@@ -153,8 +132,7 @@ function nearness(route, places, radius) {
 
 /**
  * How much two curves run side by side: so many of the one's points lie close to the other's.
- * @param {Route} one
- * @param {Route} other
+ * @param {Route} one @param {Route} other
  */
 function closeness(one, other) {
   if (!near(one.bounds, other.bounds, 9)) return 0;
@@ -163,11 +141,7 @@ function closeness(one, other) {
 }
 
 /**
- * @param {Route} route
- * @param {number} bend
- * @param {Route[]} others
- * @param {Point[]} places
- * @param {number} radius
+ * @param {Route} route @param {number} bend @param {Route[]} others @param {Point[]} places @param {number} radius
  */
 function cost(route, bend, others, places, radius) {
   let sum = Math.abs(bend) * 0.12 + nearness(route, places, radius);
@@ -184,8 +158,7 @@ const MANY_EDGES = 160;
 
 /**
  * @param {{from: number, to: number}[]} edges   none is a loop
- * @param {Point[]} places
- * @param {number} radius
+ * @param {Point[]} places @param {number} radius
  * @returns {Route[]}
  */
 export function routesOf(edges, places, radius) {

@@ -49,8 +49,7 @@ function stacked(words, split) {
 
 /**
  * How wide the circle is at a line.
- * @param {Line} line
- * @param {number} radius
+ * @param {Line} line @param {number} radius
  */
 function roomFor(line, radius) {
   const far = Math.max(Math.abs(line.y - line.size * 0.75), Math.abs(line.y + line.size * 0.15));
@@ -58,8 +57,7 @@ function roomFor(line, radius) {
 }
 
 /**
- * @param {Line[]} lines
- * @param {number} radius
+ * @param {Line[]} lines @param {number} radius
  */
 function fitsIn(lines, radius) {
   return lines.every((line) => widthOf(line.text, line.size, line.bold) <= roomFor(line, radius));
@@ -86,8 +84,7 @@ export function radiusFor(states) {
 }
 
 /**
- * @param {Words} words
- * @param {number} radius
+ * @param {Words} words @param {number} radius
  * @returns {Line[]}
  */
 export function linesIn(words, radius) {
@@ -107,8 +104,7 @@ const MOST_LINES = 3;
 
 /**
  * The inputs of an edge: at once, then after the hold.
- * @param {Edge} edge
- * @param {string[]} names
+ * @param {Edge} edge @param {string[]} names
  * @param {number|null} lit     the input that is lit
  * @returns {Label}
  */
@@ -122,8 +118,7 @@ export function edgeLabel(edge, names, lit) {
 }
 
 /**
- * @param {number[]} inputs
- * @param {string[]} names
+ * @param {number[]} inputs @param {string[]} names
  * @returns {string[]}   lines
  */
 function listOf(inputs, names) {

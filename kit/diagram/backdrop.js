@@ -3,11 +3,12 @@
  */
 import { element, group, line, path, rect, text } from '../svg.js';
 import { fit, firstThatFits, widthOf } from '../text-width.js';
+import { delayedIn } from '../delayed-in.js';
 import { nameOf } from '../name-of.js';
 import { thousands } from '../names.js';
 import { has } from '../sets.js';
 import { inTurn } from '../theme.js';
-import { columnsOf, runsOf } from './runs.js';
+import { boxesOf, columnsOf, runsOf } from './runs.js';
 import { presentOf, timeOf, refusedStep } from './view.js';
 
 /** @typedef {import('./view.js').View} View */
@@ -45,9 +46,7 @@ export function axis(view) {
 
 /**
  * A number on the axis, which stays inside the picture.
- * @param {View} view
- * @param {number} time
- * @param {{size: number, fill: string, bold?: boolean}} style
+ * @param {View} view @param {number} time @param {{size: number, fill: string, bold?: boolean}} style
  */
 export function axisNumber({ x, width, sizes, lanes }, time, style) {
   const words = thousands(time);
@@ -57,8 +56,7 @@ export function axisNumber({ x, width, sizes, lanes }, time, style) {
 
 /**
  * The refused record's time stands on the axis in red; numbers that would touch it are left out.
- * @param {View} view
- * @param {number} time
+ * @param {View} view @param {number} time
  */
 function clearOfRefused(view, time) {
   const { stretch, sizes, x } = view;
@@ -72,7 +70,7 @@ function clearOfRefused(view, time) {
  * @param {View} view
  */
 export function names(view) {
-  const { lanes, sizes, theme, trace } = view;
+  const { lanes, trace } = view;
   const middle = (/** @type {{y: number, height: number}} */ lane) => lane.y + lane.height / 2;
   const rows = [
     { y: middle(lanes.input), word: 'input', under: 'at the sensor' },
@@ -88,8 +86,7 @@ export function names(view) {
 }
 
 /**
- * @param {View} view
- * @param {number} k
+ * @param {View} view @param {number} k
  */
 function clockName({ trace, sizes }, k) {
   if (trace.table.kind === 'holds') return { word: 'hold', under: 'from the entry' };
@@ -98,10 +95,7 @@ function clockName({ trace, sizes }, k) {
 }
 
 /**
- * @param {View} view
- * @param {number} y
- * @param {string} word
- * @param {string} under
+ * @param {View} view @param {number} y @param {string} word @param {string} under
  */
 function rowName({ sizes, theme }, y, word, under) {
   const room = sizes.left - sizes.gap - 1;
@@ -115,39 +109,20 @@ function rowName({ sizes, theme }, y, word, under) {
 
 /**
  * A lane of runs. In a crowded picture they are drawn by columns of pixels.
- * @param {View} view
- * @param {Run[]} runs
- * @param {{y: number, height: number}} lane
- * @param {string[]} colours
+ * @param {View} view @param {Run[]} runs @param {{y: number, height: number}} lane @param {string[]} colours
  * @param {((value: number) => string[]) | null} words   names of a run, the best first
  */
 function lane(view, runs, { y, height }, colours, words) {
   const { theme, x } = view;
   const pieces = view.dense ? columnsOf(runs, x, 1.5) : runs.map((run) => ({ x: x(run.from), width: x(run.to) - x(run.from), value: run.value }));
-  const boxes = [...new Set(pieces.map((piece) => piece.value))].map((value) => path(
-    pieces.filter((piece) => piece.value === value).map((piece) => box(piece.x, y, piece.width, height)).join(''),
-    { fill: inTurn(colours, value) }));
-  const borders = words === null || view.dense ? null
-    : path(pieces.map((piece) => box(piece.x, y, piece.width, height)).join(''), { fill: 'none', stroke: theme.border });
+  const boxes = [...new Set(pieces.map((piece) => piece.value))].map((value) =>
+    path(boxesOf(pieces.filter((piece) => piece.value === value), y, height), { fill: inTurn(colours, value) }));
+  const borders = words === null || view.dense ? null : path(boxesOf(pieces, y, height), { fill: 'none', stroke: theme.border });
   return [boxes, borders, words === null ? null : pieces.map((piece) => laneWord(view, piece, y + height / 2, words))];
 }
 
 /**
- * @param {number} x
- * @param {number} y
- * @param {number} width
- * @param {number} height
- */
-function box(x, y, width, height) {
-  const [left, wide] = [Math.round(x * 10) / 10, Math.round(width * 10) / 10];
-  return `M${left},${y}h${wide}v${height}h${-wide}z`;
-}
-
-/**
- * @param {View} view
- * @param {{x: number, width: number, value: number}} piece
- * @param {number} y
- * @param {(value: number) => string[]} words
+ * @param {View} view @param {{x: number, width: number, value: number}} piece @param {number} y @param {(value: number) => string[]} words
  */
 function laneWord({ sizes, theme }, piece, y, words) {
   if (piece.width < sizes.text) return null;
@@ -157,8 +132,7 @@ function laneWord({ sizes, theme }, piece, y, words) {
 
 /**
  * A lane's runs, or two lists of them where one goes through the records: what has come, and what comes later.
- * @param {View} view
- * @param {(machine: import('../types.js').Machine) => number} pick
+ * @param {View} view @param {(machine: import('../types.js').Machine) => number} pick
  * @param {(runs: Run[]) => import('../svg.js').Content} drawRuns
  */
 function inTime(view, pick, drawRuns) {
@@ -180,18 +154,8 @@ export function inputLane(view) {
   const delayed = [theme.heldFill, theme.heldFill];
   return group({ class: 'input' },
     inTime(view, (machine) => machine.present, (runs) => lane(view, runs, lanes.input, theme.inputs, (value) => [nameOf(trace.names.inputs, value)])),
-    inTime(view, (machine) => Number(isDelayed(trace.table, machine.state, machine.present)),
+    inTime(view, (machine) => Number(has(delayedIn(trace.table, machine.state), machine.present)),
       (runs) => lane(view, runs.filter((run) => run.value === 1), under, delayed, null)));
-}
-
-/**
- * @param {import('../types.js').Table} table
- * @param {number} state
- * @param {number} input
- */
-export function isDelayed(table, state, input) {
-  if (table.kind === 'holds') return table.holds[state] > 0 && has(table.delayed[state], input);
-  return table.timers.some((timer) => has(timer.region, state) && has(timer.delays[state], input));
 }
 
 /**

@@ -8,7 +8,7 @@ import { nameOf } from '../name-of.js';
 import { thousands } from '../names.js';
 import { members } from '../sets.js';
 import { regionVisits, visits } from '../trace.js';
-import { columnsOf } from './runs.js';
+import { boxesOf, columnsOf } from './runs.js';
 import { presentOf } from './view.js';
 
 /** @typedef {import('./view.js').View} View */
@@ -24,8 +24,7 @@ import { presentOf } from './view.js';
  */
 
 /**
- * @param {View} view
- * @param {number} row
+ * @param {View} view @param {number} row
  * @returns {Bar[]}
  */
 function barsOf({ trace }, row) {
@@ -60,9 +59,7 @@ export function clockRows(view) {
 
 /**
  * A narrow picture has no room for a timer's name at its left.
- * @param {View} view
- * @param {{y: number, height: number}} lane
- * @param {number} row
+ * @param {View} view @param {{y: number, height: number}} lane @param {number} row
  */
 function caption({ trace, sizes, theme }, lane, row) {
   if (!sizes.narrow || trace.table.kind === 'holds') return null;
@@ -72,8 +69,7 @@ function caption({ trace, sizes, theme }, lane, row) {
 
 /**
  * Where the bar ends in the picture.
- * @param {View} view
- * @param {Bar} bar
+ * @param {View} view @param {Bar} bar
  */
 function endOf({ x, stretch }, bar) {
   return x(Math.min(bar.end, bar.to ?? bar.end, stretch.to));
@@ -81,22 +77,18 @@ function endOf({ x, stretch }, bar) {
 
 /**
  * The bars of a crowded picture, which are too narrow for words and dots.
- * @param {View} view
- * @param {{y: number, height: number}} lane
- * @param {Bar[]} bars
+ * @param {View} view @param {{y: number, height: number}} lane @param {Bar[]} bars
  */
 function narrowBars(view, lane, bars) {
   if (bars.length === 0) return null;
   const runs = bars.map((bar) => ({ from: bar.from, to: Math.min(bar.end, bar.to ?? bar.end, view.stretch.to), value: 1 }));
-  const boxes = columnsOf(runs, view.x, 1.5).map((piece) => `M${piece.x},${lane.y + 6}h${piece.width}v20h${-piece.width}z`);
-  return path(boxes.join(''), { fill: view.theme.heldFill });
+  return path(boxesOf(columnsOf(runs, view.x, 1.5), lane.y + 6, 20), { fill: view.theme.heldFill });
 }
 
 /**
  * Where one goes through the records, nobody knows yet that a state will be left, but the end of its hold is known from its entry on. So
  * its bar goes on, and bars that come in its place are left out.
- * @param {View} view
- * @param {Bar[]} bars
+ * @param {View} view @param {Bar[]} bars
  * @returns {Bar[]}
  */
 function asKnown(view, bars) {
@@ -114,9 +106,7 @@ function asKnown(view, bars) {
 
 /**
  * A bar goes on behind the refused record, to the end that the hold would have. It ends sooner if the state was left.
- * @param {View} view
- * @param {{y: number, height: number}} lane
- * @param {Bar} bar
+ * @param {View} view @param {{y: number, height: number}} lane @param {Bar} bar
  * @param {number} next      when the next bar begins
  */
 function drawBar(view, lane, bar, next) {
@@ -137,19 +127,14 @@ function drawBar(view, lane, bar, next) {
 
 /**
  * The bar goes on beyond the picture.
- * @param {View} view
- * @param {number} x
- * @param {number} y
+ * @param {View} view @param {number} x @param {number} y
  */
 function torn({ theme }, x, y) {
   return path(`M${x + 1},${y - 1}l-7,4l7,4l-7,4l7,4l-7,4l7,4v1h3v-26h-3z`, { fill: theme.paper });
 }
 
 /**
- * @param {View} view
- * @param {number} time
- * @param {number} x
- * @param {number} y
+ * @param {View} view @param {number} time @param {number} x @param {number} y
  */
 function holdEnd({ theme }, time, x, y) {
   return [
@@ -160,18 +145,17 @@ function holdEnd({ theme }, time, x, y) {
 
 /**
  * Words in the bar if it is wide enough, and behind its dot what did not fit.
- * @param {View} view
- * @param {Bar} bar
- * @param {{a: number, b: number, y: number, room: number, dot: boolean}} place
+ * @param {View} view @param {Bar} bar @param {{a: number, b: number, y: number, room: number, dot: boolean}} place
  */
 function barWords({ theme, sizes, trace }, bar, { a, b, y, room, dot }) {
   const over = `over when ${thousands(bar.end)} is passed`;
   const inside = b - a - (dot ? 18 : 12);
-  const full = [`${bar.what} delays ${bar.delays}: from ${thousands(bar.from)}, ${over}`, `${bar.what} delays ${bar.delays}, ${over}`, `${bar.what}: ${over}`,
-    `until ${thousands(bar.end)} is passed`];
+  const [delays, until] = [`${bar.what} delays ${bar.delays}`, `until ${thousands(bar.end)} is passed`];
+  const full = [`${delays}: from ${thousands(bar.from)}, ${over}`, `${delays}, ${over}`, `${bar.what}: ${over}`, until];
   const size = sizes.small;
   const whole = bar.to !== null && bar.to < bar.end ? undefined : full.find((words) => widthOf(words, size) <= inside);
-  const named = sizes.narrow && trace.table.kind === 'timers' ? [`until ${thousands(bar.end)}`] : [`${bar.what} delays ${bar.delays}`, bar.what];
+  const captioned = sizes.narrow && trace.table.kind === 'timers';
+  const named = captioned ? [`until ${thousands(bar.end)}`] : [delays, bar.what];
   const word = whole ?? firstThatFits([...named, thousands(bar.end - bar.from)], inside, size);
   const behind = whole === undefined && dot && room - b > widthOf(over, size) + 18 ? over : '';
   return [

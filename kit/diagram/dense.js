@@ -24,8 +24,7 @@ export function denseRecords(view) {
 }
 
 /**
- * @param {string} kind
- * @param {number} [value]
+ * @param {string} kind @param {number} [value]
  * @returns {(step: import('../types.js').Step) => boolean}
  */
 function ofKind(kind, value) {
@@ -33,8 +32,7 @@ function ofKind(kind, value) {
 }
 
 /**
- * @param {View} view
- * @param {(step: import('../types.js').Step) => boolean} is
+ * @param {View} view @param {(step: import('../types.js').Step) => boolean} is
  */
 function columns({ shown, x }, is) {
   return [...new Set(shown.filter(is).map((step) => Math.round(x(step.record.time) / COLUMN)))];

@@ -33,10 +33,7 @@ export class Labels {
 
   /**
    * Something is drawn here.
-   * @param {number} x
-   * @param {number} y
-   * @param {number} width
-   * @param {number} height
+   * @param {number} x @param {number} y @param {number} width @param {number} height
    */
   block(x, y, width, height) {
     this.taken.push({ x, y, width, height });
@@ -63,8 +60,7 @@ export class Labels {
 }
 
 /**
- * @param {Box} a
- * @param {Box} b
+ * @param {Box} a @param {Box} b
  */
 export function meet(a, b) {
   return a.x < b.x + b.width && b.x < a.x + a.width && a.y < b.y + b.height && b.y < a.y + a.height;
@@ -85,8 +81,7 @@ export const draw = (word) => text(word.x, word.y, word.text, word);
 
 /**
  * A word on a plate, which keeps hatching and lines away from it.
- * @param {Word} word
- * @param {string} paper
+ * @param {Word} word @param {string} paper
  */
 export function drawOnPlate(word, paper) {
   const box = boxOf(word);

@@ -46,8 +46,7 @@ export function sizesFor(width) {
  */
 
 /**
- * @param {Table} table
- * @param {Sizes} sizes
+ * @param {Table} table @param {Sizes} sizes
  * @param {number} head    the height of what stands above the axis
  * @returns {Lanes}
  */

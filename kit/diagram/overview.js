@@ -4,15 +4,14 @@
 import { group, path, rect, text } from '../svg.js';
 import { thousands } from '../names.js';
 import { inTurn } from '../theme.js';
-import { columnsOf, runsOf } from './runs.js';
+import { boxesOf, columnsOf, runsOf } from './runs.js';
 
 /** @typedef {import('./view.js').View} View */
 
 const HEIGHT = 14;
 
 /**
- * @param {Omit<View, 'lanes'>} view
- * @param {number} y
+ * @param {Omit<View, 'lanes'>} view @param {number} y
  * @returns {{markup: import('../svg.js').Content, height: number}}
  */
 export function overview(view, y) {
@@ -29,8 +28,7 @@ export function overview(view, y) {
     height: HEIGHT + 34,
     markup: group({ class: 'overview', 'data-from': 0, 'data-to': String(stretch.seen) },
       text(sizes.left - sizes.gap, y + 19, sizes.narrow ? 'all' : 'whole journal', { size: sizes.small, fill: theme.quiet, anchor: 'end' }),
-      fills.map((value) => path(pieces.filter((piece) => piece.value === value).map((piece) => `M${piece.x},${y + 8}h${piece.width}v${HEIGHT}h${-piece.width}z`).join(''),
-        { fill: inTurn(theme.states, value) })),
+      fills.map((value) => path(boxesOf(pieces.filter((piece) => piece.value === value), y + 8, HEIGHT), { fill: inTurn(theme.states, value) })),
       rect(sizes.left, y + 8, right - sizes.left, HEIGHT, { fill: 'none', stroke: theme.border, 'stroke-width': 0.8 }),
       rect(a, y + 5, Math.max(b - a, 4), HEIGHT + 6, frame),
       path(`M${middle - 6},${y + HEIGHT + 18}h12l-6,-6z`, { fill: theme.lit }),
@@ -39,10 +37,7 @@ export function overview(view, y) {
 }
 
 /**
- * @param {Omit<View, 'lanes'>} view
- * @param {number} y
- * @param {number} middle
- * @param {import('./stretch.js').Stretch} stretch
+ * @param {Omit<View, 'lanes'>} view @param {number} y @param {number} middle @param {import('./stretch.js').Stretch} stretch
  */
 function extent({ sizes, theme, width }, y, middle, stretch) {
   const words = `shown: ${thousands(stretch.from)} to ${thousands(Math.min(stretch.to, stretch.seen))} of ${thousands(stretch.seen)}`;

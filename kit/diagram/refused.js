@@ -1,15 +1,14 @@
 /**
  * The refused record: a red ring, a line through all lanes, and what it says beside what the machine has.
  */
-import { circle, group, line, path, text } from '../svg.js';
-import { widthOf } from '../text-width.js';
+import { circle, group, line, path } from '../svg.js';
 import { nameOf } from '../name-of.js';
 import { thousands } from '../names.js';
 import { ownValue } from '../trace.js';
 import { axisNumber } from './backdrop.js';
 import { drawOnPlate } from './labels.js';
-import { sides } from './records.js';
-import { refusedStep, timeOf, xOf, yOf } from './view.js';
+import { sides, VERDICTS } from './record-words.js';
+import { isLater, refusedStep, timeOf, xOf, yOf } from './view.js';
 
 /** @typedef {import('./view.js').View} View */
 /** @typedef {import('../types.js').Step} Step */
@@ -21,15 +20,16 @@ const IN_SHORT = new Map([
 ]);
 
 /**
- * @param {View} view
- * @param {Step} step
+ * @param {View} view @param {Step} step
  * @returns {string[]}   what it says, then what is
  */
 export function inShort({ trace, stretch }, step) {
   const own = ownValue(trace, step);
   const { kind, value, time } = step.record;
-  const lists = { poll: trace.names.inputs, test: ['held', 'free'], tick: trace.names.states };
-  if (own !== null && (kind === 'poll' || kind === 'test' || kind === 'tick')) return [`says ${nameOf(lists[kind], value)}`, `is ${nameOf(lists[kind], own)}`];
+  const lists = { poll: trace.names.inputs, test: VERDICTS, tick: trace.names.states };
+  if (own !== null && (kind === 'poll' || kind === 'test' || kind === 'tick')) {
+    return [`says ${nameOf(lists[kind], value)}`, `is ${nameOf(lists[kind], own)}`];
+  }
   const wrong = IN_SHORT.get(trace.refused?.number ?? 0) ?? 'refused';
   if (kind === 'bytes' || stretch.far) return [wrong];
   return kind === 'input' ? [wrong, 'opening'] : [wrong, `${kind} at ${thousands(time)}`];
@@ -37,8 +37,7 @@ export function inShort({ trace, stretch }, step) {
 
 /**
  * The words at the ring are chosen before those at other records.
- * @param {View} view
- * @param {import('./labels.js').Labels} labels
+ * @param {View} view @param {import('./labels.js').Labels} labels
  */
 export function refusedWords(view, labels) {
   const step = refusedStep(view);
@@ -50,7 +49,8 @@ export function refusedWords(view, labels) {
   const second = { y: y + sizes.text * 1.1, text: is ?? '', size: sizes.small + 0.5, fill: theme.ink };
   const words = is === undefined ? [first] : [first, second];
   const [right, left] = sides(view, step, r + 7, words);
-  const rows = [lanes.tick, lanes.poll, lanes.test, lanes.state.y - 10].flatMap((row) => sides(view, step, 7, [{ ...first, y: row + sizes.text * 0.36 }]));
+  const rows = [lanes.tick, lanes.poll, lanes.test, lanes.state.y - 10]
+    .flatMap((row) => sides(view, step, 7, [{ ...first, y: row + sizes.text * 0.36 }]));
   const around = [left, stacked(words, x, y + r + 4), stacked(words, x, y - r - 6 - sizes.text * 1.15 * words.length)];
   const inLane = y < lanes.band.y;
   const chosen = labels.choose([right, ...(inLane ? [] : around), ...rows]);
@@ -62,9 +62,7 @@ export function refusedWords(view, labels) {
 
 /**
  * Words below each other, around a place; `y` is where the first begins.
- * @param {{text: string, size: number, fill: string, bold?: boolean}[]} words
- * @param {number} x
- * @param {number} y
+ * @param {{text: string, size: number, fill: string, bold?: boolean}[]} words @param {number} x @param {number} y
  * @returns {import('./labels.js').Word[]}
  */
 function stacked(words, x, y) {
@@ -73,8 +71,7 @@ function stacked(words, x, y) {
 
 /**
  * The line through all lanes, down to `foot`, and the record's time on the axis.
- * @param {View} view
- * @param {number} foot
+ * @param {View} view @param {number} foot
  */
 export function refusedLine(view, foot) {
   const step = refusedStep(view);
@@ -87,16 +84,14 @@ export function refusedLine(view, foot) {
 }
 
 /**
- * @param {View} view
- * @param {import('../svg.js').Content} words
+ * @param {View} view @param {import('../svg.js').Content} words
  */
 export function refusedMark(view, words) {
   const step = refusedStep(view);
   if (step === null) return null;
-  const { options, theme, sizes } = view;
-  const later = options.step && step.number > (options.selected ?? Infinity);
+  const { theme, sizes } = view;
   const ring = { fill: 'none', stroke: theme.red, 'stroke-width': 3.4, class: 'refused-record', 'data-record': step.number };
-  return group({ class: 'refusal', opacity: later ? 0.3 : null }, circle(xOf(view, step), yOf(view, step), sizes.ring, ring), words);
+  return group({ class: 'refusal', opacity: isLater(view, step) ? 0.3 : null }, circle(xOf(view, step), yOf(view, step), sizes.ring, ring), words);
 }
 
 /**
@@ -108,23 +103,4 @@ export function axisBreak({ stretch, end, lanes, theme }) {
   const x = end + 10;
   const slant = (/** @type {number} */ at) => `M${at - 5},${lanes.top + 14}l10,-14M${at - 5},${lanes.bottom}l10,-14`;
   return path(slant(x) + slant(x + 8), { stroke: theme.quiet, 'stroke-width': 2.2, fill: 'none', class: 'break' });
-}
-
-/**
- * Until when a record could have come, where one came too late.
- * @param {View} view
- */
-export function cycleLimit(view) {
-  const { trace, lanes, theme, sizes, x, stretch } = view;
-  const step = refusedStep(view);
-  const start = step?.before?.cycleStart;
-  if (trace.refused?.number !== 25 || start === undefined) return null;
-  const limit = start + trace.table.cycle;
-  if (limit > stretch.to || start > stretch.to) return null;
-  const [a, b] = [x(Math.max(start, stretch.from)), x(limit)];
-  const words = [`at most ${thousands(trace.table.cycle)}: until ${thousands(limit)}`, `until ${thousands(limit)}`];
-  const word = words.find((long) => widthOf(long, sizes.small, true) < b - a - 8) ?? '';
-  return group({ class: 'limit' },
-    path(`M${a + 4},${lanes.cycle + 8}H${b}M${b},${lanes.cycle - 8}v24`, { stroke: theme.red, 'stroke-width': 2, fill: 'none' }),
-    text((a + b) / 2, lanes.cycle + 2, word, { size: sizes.small, fill: theme.red, anchor: 'middle', bold: true }));
 }

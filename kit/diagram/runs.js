@@ -14,8 +14,7 @@
 
 /**
  * @param {Step[]} taken                          the accepted steps
- * @param {(machine: Machine) => number} pick
- * @param {{from: number, to: number, known: number}} stretch
+ * @param {(machine: Machine) => number} pick @param {{from: number, to: number, known: number}} stretch
  * @returns {Run[]}  the runs within the stretch, none of them empty
  */
 export function runsOf(taken, pick, stretch) {
@@ -38,8 +37,7 @@ export function runsOf(taken, pick, stretch) {
 /**
  * The runs as columns of pixels, for crowded pictures. A column has the value that lasts longest in it, and neighbours of one value are put
  * together, so that there are never more pieces than columns.
- * @param {Run[]} runs
- * @param {(time: number) => number} x
+ * @param {Run[]} runs @param {(time: number) => number} x
  * @param {number} width    of a column
  * @returns {{x: number, width: number, value: number}[]}
  */
@@ -70,4 +68,13 @@ function joined(columns, width) {
     else pieces.push({ x: column * width, width, value });
   }
   return pieces;
+}
+
+/**
+ * Pieces of a lane as boxes of one path.
+ * @param {{x: number, width: number}[]} pieces @param {number} y @param {number} height
+ */
+export function boxesOf(pieces, y, height) {
+  const tenth = (/** @type {number} */ number) => Math.round(number * 10) / 10;
+  return pieces.map(({ x, width }) => `M${tenth(x)},${y}h${tenth(width)}v${height}h${-tenth(width)}z`).join('');
 }

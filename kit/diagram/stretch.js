@@ -30,9 +30,7 @@
  */
 
 /**
- * @param {Trace} trace
- * @param {Asked} asked
- * @param {Room} room
+ * @param {Trace} trace @param {Asked} asked @param {Room} room
  * @returns {Stretch}
  */
 export function stretchOf(trace, asked, room) {
@@ -52,8 +50,7 @@ export function stretchOf(trace, asked, room) {
 
 /**
  * A second opening and bytes that are no record have no time of their own.
- * @param {Step} step
- * @param {number} seen
+ * @param {Step} step @param {number} seen
  */
 function timeOfRefused(step, seen) {
   const { kind, time } = step.record;
@@ -62,8 +59,7 @@ function timeOfRefused(step, seen) {
 
 /**
  * How long a cycle usually is: the middle one of the completed ones.
- * @param {Step[]} taken
- * @param {number} bound
+ * @param {Step[]} taken @param {number} bound
  */
 function paceOf(taken, bound) {
   const lengths = taken.filter((step) => step.record.kind === 'tick').map((step) => step.record.time - (step.before?.cycleStart ?? 0));
@@ -73,8 +69,7 @@ function paceOf(taken, bound) {
 
 /**
  * Behind a refused record some of what was not read is shown, and the end of a hold that is running, if they are near.
- * @param {Trace} trace
- * @param {{from: number, seen: number, refusedAt: number|null, far: boolean, reach: number, pace: number}} found
+ * @param {Trace} trace @param {{from: number, seen: number, refusedAt: number|null, far: boolean, reach: number, pace: number}} found
  * @param {number} words   the share of the width that is left free behind the refused record
  */
 function lastShown(trace, { from, seen, refusedAt, far, reach, pace }, words) {
@@ -90,8 +85,7 @@ function lastShown(trace, { from, seen, refusedAt, far, reach, pace }, words) {
 
 /**
  * When the clocks of the machine's state end, and a little beyond, so that the dot does not stand at the edge.
- * @param {Trace} trace
- * @param {import('../types.js').Machine} machine
+ * @param {Trace} trace @param {import('../types.js').Machine} machine
  */
 function endsOf({ table }, machine) {
   if (table.kind === 'holds') return table.delayed[machine.state] === 0 ? [] : [machine.entry + table.holds[machine.state] + 1];
@@ -101,15 +95,12 @@ function endsOf({ table }, machine) {
 
 /**
  * The piece of a long journal that is shown: the one that has the selected record; or else the last one before a refusal, or the first.
- * @param {Step[]} taken
- * @param {boolean} refused
- * @param {Asked} asked
- * @param {Room} room
+ * @param {Step[]} taken @param {boolean} refused @param {Asked} asked @param {Room} room
  */
 function pieceOf(taken, refused, { selected }, room) {
   const cuts = cutsOf(taken, refused, room);
   const wanted = selected ?? (refused ? taken.length : 0);
-  const k = Math.max(0, cuts.findIndex((cut, index) => wanted < (cuts[index + 1] ?? Infinity)));
+  const k = Math.max(0, cuts.findIndex((_, index) => wanted < (cuts[index + 1] ?? Infinity)));
   const timeAt = (/** @type {number} */ index) => taken[index]?.record.time ?? 0;
   const last = k === cuts.length - 1;
   return { from: timeAt(cuts[k]), to: last ? 0 : timeAt(cuts[k + 1]), last };
@@ -117,9 +108,7 @@ function pieceOf(taken, refused, { selected }, room) {
 
 /**
  * Where each piece begins, as indices of steps. They are counted from the end if that was refused, so that its piece is a full one.
- * @param {Step[]} taken
- * @param {boolean} fromEnd
- * @param {Room} room
+ * @param {Step[]} taken @param {boolean} fromEnd @param {Room} room
  * @returns {number[]}
  */
 function cutsOf(taken, fromEnd, room) {

@@ -54,8 +54,7 @@ const FAR_ROOM = 120;
 
 /**
  * All but the lanes, which depend on what stands above them.
- * @param {Trace} trace
- * @param {Options} options
+ * @param {Trace} trace @param {Options} options
  * @returns {Omit<View, 'lanes'>}
  */
 export function viewOf(trace, options) {
@@ -81,9 +80,7 @@ export function viewOf(trace, options) {
 
 /**
  * From times to places.
- * @param {import('./stretch.js').Stretch} stretch
- * @param {number} left
- * @param {number} end
+ * @param {import('./stretch.js').Stretch} stretch @param {number} left @param {number} end
  * @param {number} farX   where a refused record behind a break stands
  * @returns {(time: number) => number}
  */
@@ -93,10 +90,7 @@ function scaleOf({ from, to, far, refusedAt }, left, end, farX) {
 }
 
 /**
- * @param {Trace} trace
- * @param {import('./stretch.js').Stretch} stretch
- * @param {Step} step
- * @param {number} index
+ * @param {Trace} trace @param {import('./stretch.js').Stretch} stretch @param {Step} step @param {number} index
  */
 function isShown(trace, stretch, step, index) {
   const { time, kind } = step.record;
@@ -117,8 +111,7 @@ export function refusedStep({ trace, stretch }) {
 
 /**
  * When a step happened. The refused one may have no time of its own.
- * @param {Omit<View, 'lanes'>} view
- * @param {Step} step
+ * @param {Omit<View, 'lanes'>} view @param {Step} step
  */
 export function timeOf({ trace, stretch }, step) {
   return step.number === trace.stop ? stretch.refusedAt ?? 0 : step.record.time;
@@ -126,8 +119,7 @@ export function timeOf({ trace, stretch }, step) {
 
 /**
  * Where the record's mark stands, from left to right. A refused one may be earlier than the picture, and then stands at its edge.
- * @param {Omit<View, 'lanes'>} view
- * @param {Step} step
+ * @param {Omit<View, 'lanes'>} view @param {Step} step
  */
 export function xOf(view, step) {
   return Math.max(view.sizes.left, view.x(timeOf(view, step)));
@@ -135,8 +127,7 @@ export function xOf(view, step) {
 
 /**
  * The middle of the row on which a record stands.
- * @param {View} view
- * @param {Step} step
+ * @param {View} view @param {Step} step
  * @returns {number}
  */
 export function yOf({ lanes }, step) {
@@ -144,6 +135,14 @@ export function yOf({ lanes }, step) {
   if (kind === 'poll' || kind === 'test' || kind === 'tick') return lanes[kind];
   if (kind === 'change' || kind === 'input') return lanes.input.y + lanes.input.height / 2;
   return kind === 'end' ? lanes.cycle : lanes.test;
+}
+
+/**
+ * Does the step come after the selected one, where one goes through them record by record?
+ * @param {Omit<View, 'lanes'>} view @param {Step} step
+ */
+export function isLater({ options }, step) {
+  return options.step === true && step.number > (options.selected ?? Infinity);
 }
 
 /** So many pixels behind the selected record show the machine as it is then. */
