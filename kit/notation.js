@@ -25,7 +25,9 @@ export { FORM_WORDS, recordLine } from './notation/records.js';
 /** @typedef {import('./notation/lexer.js').Line} Line */
 /** @typedef {{kind: 'table'|Form, header: Line, body: Line[], spoilt: boolean}} Section  spoilt: a line of it could not be read */
 
-export const TEXT_MAX = 4000000;
+/** The largest table that has its six fields takes 4,300,000 with plain names. */
+export const TEXT_MAX = 6000000;
+const BYTES_OF_CHARACTER = 3;
 
 const MAGIC = 'krossvil';
 const BOM = '\ufeff';
@@ -96,11 +98,13 @@ function sectionsOf(lines, mistakes) {
   const sections = [];
   /** @type {Section|null|undefined} */
   let section;
-  lines.forEach((source, k) => {
-    const { tokens, fault } = readLine(source);
+  for (const [k, source] of lines.entries()) {
+    const stopped = mistakes.stop();
+    const { tokens, fault } = readLine(stopped ? '' : source);
     if (fault) mistakes.add(k + 1, fault, fault.says);
-    if (fault && section) section.spoilt = true;
-    if (tokens.length === 0) return;
+    if ((fault || stopped) && section) section.spoilt = true;
+    if (stopped) break;
+    if (tokens.length === 0) continue;
     const line = { number: k + 1, tokens };
     if (tokens[0].kind === 'word' && tokens[0].text === MAGIC) {
       section = sectionOf(line, sections, mistakes);
@@ -108,9 +112,9 @@ function sectionsOf(lines, mistakes) {
     } else if (section) {
       section.body.push(line);
     } else if (section === undefined) {
-      mistakes.once('beginning', k + 1, tokens[0], 'a text begins with the word krossvil and what follows, as in: krossvil table');
+      mistakes.once('beginning', k + 1, tokens[0], () => 'a text begins with the word krossvil and what follows, as in: krossvil table');
     }
-  });
+  }
   return sections;
 }
 
@@ -157,11 +161,12 @@ function writable(names) {
 }
 
 /**
- * Any bytes as the text of a table. Names that do not fit it, or cannot stand in a text, are not used.
+ * Any bytes as the text of a table. Names that do not fit it, cannot stand in a text, or would make it too long to be read are not used.
  * @param {Uint8Array} bytes @param {Names|null} [names]
  */
 export function tableText(bytes, names) {
-  return writeTable(bytes, writable(names) ? names : null);
+  const text = writeTable(bytes, writable(names) ? names : null);
+  return BYTES_OF_CHARACTER * text.length > TEXT_MAX ? writeTable(bytes, null) : text;
 }
 
 /**

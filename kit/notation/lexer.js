@@ -17,6 +17,7 @@ export const NAME_MAX = 64;
 
 const WORD = '[\\p{L}\\p{M}\\p{N}_.]+(?:-[\\p{L}\\p{M}\\p{N}_.]+)*';
 const TOKEN = new RegExp(`(?<name>"[^"]*")|(?<arrow>->|→)|(?<comma>,)|(?<gap>\\+[0-9]+)|(?<word>${WORD}|-[0-9]+)|(?<dash>-)`, 'uy');
+const SPACES = /\s*/uy;
 const BARE = /^[\p{L}_][\p{L}\p{M}\p{N}_.]*(?:-[\p{L}\p{M}\p{N}_.]+)*$/u;
 
 /** What cannot be seen: control characters, those that turn the direction of writing, those of no width, separators of lines. */
@@ -94,6 +95,15 @@ function tokenOf(match) {
 }
 
 /**
+ * @param {string} line @param {number} at
+ */
+function behindSpaces(line, at) {
+  SPACES.lastIndex = at;
+  SPACES.test(line);
+  return SPACES.lastIndex;
+}
+
+/**
  * The tokens of a line up to its comment, and what is wrong with it. The tokens before a fault are given too.
  * @param {string} line
  * @returns {{tokens: Token[], fault: Fault|null}}
@@ -102,16 +112,12 @@ export function readLine(line) {
   /** @type {Token[]} */
   const tokens = [];
   const hidden = hiddenFault(line);
-  for (let at = 0; at < line.length;) {
-    const rest = line.slice(at);
-    const spaces = rest.length - rest.trimStart().length;
-    at += spaces;
-    if (at >= line.length || line[at] === '#') break;
+  for (let at = behindSpaces(line, 0); at < line.length && line[at] !== '#';) {
     TOKEN.lastIndex = at;
     const match = TOKEN.exec(line);
     if (!match) return { tokens, fault: hidden ?? strange(line, at) };
     tokens.push(tokenOf(match));
-    at += match[0].length;
+    at = behindSpaces(line, at + match[0].length);
   }
   return { tokens, fault: hidden };
 }

@@ -4,6 +4,9 @@
 /** @typedef {import('./lexer.js').Token} Token */
 
 const SHOWN = 10;
+const MOST = 100;
+const WIDTH = 120;
+const LONGEST = 400;
 
 /** The mistakes of one text, gathered instead of stopping at the first. Of each line the first is kept: others often follow from it. */
 export class Mistakes {
@@ -24,18 +27,26 @@ export class Mistakes {
    */
   add(line, at, says) {
     this.count++;
-    if (!this.lines.has(line)) this.found.push({ line, column: at?.column ?? 1, width: at?.width ?? 1, says });
+    const short = says.length > LONGEST ? `${says.slice(0, LONGEST)} ..` : says;
+    if (!this.lines.has(line)) this.found.push({ line, column: at?.column ?? 1, width: at?.width ?? 1, says: short });
     this.lines.add(line);
   }
 
   /**
    * One cause, one mistake: what is wrong in many places for one reason is said once.
-   * @param {string} cause @param {number} line @param {{column: number, width: number}|null|undefined} at @param {string} says
+   * @param {string} cause @param {number} line @param {{column: number, width: number}|null|undefined} at @param {() => string} says
    */
   once(cause, line, at, says) {
     if (this.said.has(cause)) this.unsaid();
-    else this.add(line, at, says);
+    else this.add(line, at, says());
     this.said.add(cause);
+  }
+
+  /** There are so many that nothing more is read. What is left out counts as a mistake. */
+  stop() {
+    const full = this.found.length >= MOST;
+    if (full) this.unsaid();
+    return full;
   }
 
   /** A mistake that follows from another: the part has it, but nothing is said. */
@@ -101,13 +112,14 @@ export function didYouMean(word, words) {
 }
 
 /**
- * A mistake with its line and a caret below.
+ * A mistake with its line and a caret below. Of a long line the piece around the mistake is shown.
  * @param {Mistake} mistake @param {string[]} lines @param {string} file
  */
-function showOne(mistake, lines, file) {
-  const source = (lines[mistake.line - 1] ?? '').trimEnd().replaceAll(/[\p{Cc}\p{Cf}]/gu, ' ');
-  const caret = ' '.repeat(mistake.column - 1) + '^'.repeat(Math.max(1, mistake.width));
-  return `${file}:${mistake.line}:${mistake.column}: ${mistake.says}\n    ${source}\n    ${caret}`;
+function showOne({ line, column, width, says }, lines, file) {
+  const from = Math.max(0, column - 1 - WIDTH / 2);
+  const source = (lines[line - 1] ?? '').slice(from, from + WIDTH).trimEnd().replaceAll(/[\p{Cc}\p{Cf}]/gu, ' ');
+  const caret = ' '.repeat(column - 1 - from) + '^'.repeat(Math.max(1, Math.min(width, WIDTH / 2)));
+  return `${file}:${line}:${column}: ${says}\n    ${source}\n    ${caret}`;
 }
 
 /**

@@ -90,12 +90,13 @@ export class Reading {
       this.mistakes.unsaid();
       return;
     }
+    const { text } = token;
     if (!this.names && what !== 'verdict') {
-      const says = `'${token.text}' is a name, and there is no table's text to take names from; a number stands for itself`;
+      const says = () => `'${text}' is a name, and there is no table's text to take names from; a number stands for itself`;
       this.mistakes.once('names', line.number, token, says);
       return;
     }
-    this.mistakes.once(`${what} ${token.text}`, line.number, token, `there is no ${what} '${token.text}'${this.hint(token.text, what)}`);
+    this.mistakes.once(`${what} ${text}`, line.number, token, () => `there is no ${what} '${text}'${this.hint(text, what)}`);
   }
 
   /**

@@ -60,9 +60,10 @@ function readTime(reading, line, form) {
   const most = 256 ** FORMS[form].width - 1;
   if (first.kind === (form === 'short' ? 'gap' : 'number')) return reading.number(line, first, most, `a ${timeWord(form)}`);
   if (form === 'short' && first.kind === 'number') {
-    mistakes.once('no gap', line.number, first, `a short journal has gaps in the place of times, written with a plus sign: +${first.text}`);
+    const says = () => `a short journal has gaps in the place of times, written with a plus sign: +${first.text}`;
+    mistakes.once('no gap', line.number, first, says);
   } else if (first.kind === 'gap') {
-    mistakes.once('gap', line.number, first, 'this is a gap; a journal of gaps begins with: krossvil short journal');
+    mistakes.once('gap', line.number, first, () => 'this is a gap; a journal of gaps begins with: krossvil short journal');
   } else if (TIMED.includes(first.text) && second) {
     mistakes.add(line.number, first, `the ${timeWord(form)} comes first: ${form === 'short' ? '+' : ''}${second.text} ${first.text}`);
   } else {
@@ -93,12 +94,13 @@ function readValue(reading, line, form, kind, at) {
   const what = VALUES[kind];
   if (!saysValue(form, kind) || !what) {
     if (kind === 'end' || !token) reading.tooMany(line, token);
-    else reading.mistakes.once('value', line.number, token, `a ${kind} in a stimulus has a time only; the runtime finds the rest`);
+    else reading.mistakes.once('value', line.number, token, () => `a ${kind} in a stimulus has a time only; the runtime finds the rest`);
     return 0;
   }
   reading.tooMany(line, line.tokens[at + 1]);
   if (token || kind === 'input') return reading.member(line, token, what);
-  reading.mistakes.once('no value', line.number, behind(line), `the ${kind} at ${line.tokens[0].text} does not say ${MISSING.get(kind)}`);
+  const says = () => `the ${kind} at ${line.tokens[0].text} does not say ${MISSING.get(kind)}`;
+  reading.mistakes.once('no value', line.number, behind(line), says);
   return 0;
 }
 
@@ -136,8 +138,9 @@ export function readRecords(reading, body, form) {
   /** @type {Origin[]} */
   const origins = [];
   for (const line of body) {
+    if (reading.mistakes.stop()) break;
     const record = readRecord(reading, line, form, bytes.length);
-    bytes.push(...record.bytes);
+    for (const byte of record.bytes) bytes.push(byte);
     origins.push(...record.origins);
   }
   return { bytes: Uint8Array.from(bytes), origins };

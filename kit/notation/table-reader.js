@@ -98,7 +98,7 @@ function put(lines, line, reading) {
  */
 function orphan(reading, line, what) {
   reading.unsound.add('state');
-  reading.mistakes.once('orphan', line.number, line.tokens[0], `${what} belongs under a state`);
+  reading.mistakes.once('orphan', line.number, line.tokens[0], () => `${what} belongs under a state`);
 }
 
 /**
@@ -119,18 +119,27 @@ function notUnderstood(reading, line) {
  * @returns {Lines}
  */
 function sorted(reading, header, body) {
+  /** @type {Lines} */
   const lines = { header, heads: new Map(), timers: [], blocks: [], rest: [] };
   for (const line of body) {
+    if (reading.mistakes.stop()) break;
     if (!put(lines, line, reading)) notUnderstood(reading, line);
   }
+  lines.blocks = upToByte(reading, lines.blocks, (block) => block.line, 'state');
+  lines.timers = upToByte(reading, lines.timers, (line) => line, 'timer');
   return lines;
 }
 
 /**
- * @param {string} what
+ * As many as a byte can count; more are a mistake.
+ * @template T
+ * @param {Reading} reading @param {T[]} all @param {(one: T) => Line} lineOf @param {string} what @param {(one: T) => Token|null} [tokenOf]
  */
-function tooManyFor(what) {
-  return `more than ${MOST_BYTE} ${what}s do not fit in a byte`;
+function upToByte(reading, all, lineOf, what, tokenOf = () => null) {
+  const one = all[MOST_BYTE];
+  if (one === undefined) return all;
+  reading.mistakes.add(lineOf(one).number, tokenOf(one), `more than ${MOST_BYTE} ${what}s do not fit in a byte`);
+  return all.slice(0, MOST_BYTE);
 }
 
 /**
@@ -139,15 +148,18 @@ function tooManyFor(what) {
  * @returns {string[]}
  */
 function readNames(reading, line, what) {
-  const before = reading.mistakes.count;
-  const tokens = line ? reading.listed(line, line.tokens.slice(1), `${what}s`) : [];
-  for (const [k, token] of tokens.entries()) {
-    if (!line || !reading.isName(line, token)) continue;
-    const twice = tokens.findIndex((other) => other.text === token.text) < k;
-    if (twice) reading.mistakes.add(line.number, token, `'${token.text}' stands twice`);
+  if (!line) {
+    reading.unsound.add(what);
+    return [];
   }
-  if (line && tokens.length > MOST_BYTE) reading.mistakes.add(line.number, tokens[MOST_BYTE], tooManyFor(what));
-  if (!line || reading.mistakes.count > before) reading.unsound.add(what);
+  const before = reading.mistakes.count;
+  const listed = reading.listed(line, line.tokens.slice(1), `${what}s`);
+  const tokens = upToByte(reading, listed, () => line, what, (token) => token);
+  for (const [k, token] of tokens.entries()) {
+    const twice = tokens.findIndex((other) => other.text === token.text) < k;
+    if (reading.isName(line, token) && twice) reading.mistakes.add(line.number, token, `'${token.text}' stands twice`);
+  }
+  if (reading.mistakes.count > before) reading.unsound.add(what);
   return tokens.map((token) => token.text);
 }
 
@@ -167,7 +179,6 @@ function readSecondNames(reading, lines, what) {
     }
     if (what === 'state') reading.tooMany(line, line.tokens[2]);
   }
-  if (lines.length > MOST_BYTE) reading.mistakes.add(lines[MOST_BYTE].number, null, tooManyFor(what));
   if (reading.mistakes.count > before) reading.unsound.add(what);
   return names;
 }
@@ -411,7 +422,7 @@ function readRaw(reading, body) {
   const bytes = [];
   const origins = body.map((line) => {
     const own = reading.raw(line);
-    bytes.push(...own);
+    for (const byte of own) bytes.push(byte);
     return origin(bytes.length - own.length, own.length, line);
   });
   return { bytes: Uint8Array.from(bytes), origins };

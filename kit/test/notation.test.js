@@ -8,6 +8,7 @@ import { library, sameBytes, sample } from './core.js';
 import { drawRun, perhapsDamaged } from './draw.js';
 
 const ROUNDS = 2500;
+const CLASSROOM_TABLE = sample('classroom').split('\nkrossvil ')[0];
 const FORMS = ['journal', 'stamped', 'short', 'stimulus'];
 
 /** Bytes, their text, and back. */
@@ -44,6 +45,19 @@ test('long and broken bytes come back', () => {
     for (const length of [0, 1, 2, 3, 65535, 65537, 100000]) comesBack(new Chance(length).bytes(length), kind, null);
     comesBack(new Uint8Array(70000).fill(0x11), kind, null);
   }
+});
+
+test('the largest table that has its six fields comes back, with long names and without', () => {
+  const chance = new Chance(1);
+  const each = (count, draw) => Array.from({ length: count }, draw);
+  const bytes = encodeTable({
+    kind: 'timers', counts: { states: 255, inputs: 255, outputs: 255 }, start: 255, cycle: 0xffffffff, rest: chance.bytes(9),
+    outputs: each(255, () => 255), next: each(255, () => each(255, () => chance.below(256))), holds: [], delayed: [],
+    timers: each(64, () => ({ length: 0xffffffff, region: 0xffffffff, delays: each(255, () => 0xffffffff) })), names: null,
+  });
+  const long = (letter, count) => each(count, (_, k) => `${letter}${k}`.padEnd(64, 'é'));
+  comesBack(bytes, 'table', null);
+  comesBack(bytes, 'table', { states: long('q', 255), inputs: long('i', 255), outputs: long('o', 255), timers: long('t', 64) });
 });
 
 test('a name may be a keyword, have spaces, quotation marks of other kinds, or markup', () => {
@@ -202,7 +216,7 @@ test('a text may come as bytes, with a byte order mark and any line ends; other 
   const broken = new TextEncoder().encode(text);
   broken[text.indexOf('outputs')] = 0xff;
   assert.deepEqual(readText(broken).mistakes.map(({ line }) => line), [4]);
-  assert.equal(readText('krossvil table\n' + ' '.repeat(4000001)).mistakes.length, 1);
+  assert.equal(readText('krossvil table\n' + ' '.repeat(6000001)).mistakes.length, 1);
   assert.equal(readText('').mistakes.length, 1);
   for (const none of ['', 'krossvilx', ' krossvil table', '\u0010\u0000\u0001', 'table']) assert.ok(!isText(none), none);
 });
@@ -224,6 +238,31 @@ test('texts damaged by chance: no exception, and what is read comes back', () =>
     assert.equal(new Set(read.mistakes.map(({ line, column, says }) => `${line}:${column}:${says}`)).size, read.mistakes.length);
     for (const part of read.parts) comesBack(part.bytes, part.kind, read.names);
     showMistakes(read);
+  }
+});
+
+/** Texts that are long, or have many mistakes. */
+const HUGE = {
+  'one line of bytes': `krossvil journal\nbytes ${'11 '.repeat(300000)}`,
+  'many lines of bytes': `krossvil table\n${'bytes 11\n'.repeat(100000)}`,
+  'many records': `krossvil journal\ninput 0\n${'1 change 0\n'.repeat(50000)}`,
+  'many names': `krossvil table\ninputs ${Array.from({ length: 100000 }, (_, k) => `i${k}`).join(', ')}\n`,
+  'many states': `krossvil table\n${Array.from({ length: 60000 }, (_, k) => `state q${k}\n`).join('')}`,
+  'many unknown names': `${CLASSROOM_TABLE}\nkrossvil journal\n${Array.from({ length: 50000 }, (_, k) => `1 tick q${k}q\n`).join('')}`,
+  'many parts': 'krossvil journal\n'.repeat(200000),
+  'many lines that are not understood': `krossvil table\n${'cylce 3\n'.repeat(100000)}`,
+  'spaces': `krossvil table\n${' '.repeat(3900000)}`,
+  'a long word': `krossvil table\n${'x'.repeat(3900000)}`,
+  'quotation marks': `krossvil table\n${'"'.repeat(900001)}`,
+};
+
+test('a huge text is read, or has its mistakes, in a moment', () => {
+  for (const [name, text] of Object.entries(HUGE)) {
+    const from = Date.now();
+    const read = readText(text);
+    assert.ok(Date.now() - from < 20000, `${name} took ${Date.now() - from} ms`);
+    assert.ok(read.mistakes.length <= 100 && showMistakes(read).length < 10000, name);
+    assert.equal(read.parts.length > 0, /^(one line|many lines of bytes|many records|many parts|many unknown)/.test(name), name);
   }
 });
 
