@@ -1,187 +1,26 @@
-/** The text of a table, read. */
+/** The text of a table as bytes. */
 
-import { encodeTable, tablePlaces } from '../fields.js';
+import { decodeTable, encodeTable, tablePlaces } from '../fields.js';
 import { setOf } from '../sets.js';
 import { writtenName } from './lexer.js';
-import { didYouMean } from './mistakes.js';
 import { behind, origin } from './reading.js';
+import { HEADS, keyword, sortLines } from './table-lines.js';
+import { readNames } from './table-names.js';
 
 /** @typedef {import('../types.js').Names} Names */
 /** @typedef {import('../types.js').Origin} Origin */
 /** @typedef {import('../types.js').Table} Table */
-/** @typedef {import('../types.js').Timer} Timer */
 /** @typedef {import('./lexer.js').Line} Line */
 /** @typedef {import('./lexer.js').Token} Token */
 /** @typedef {import('./reading.js').Reading} Reading */
-
-/**
- * The lines of a state.
- * @typedef {Object} Block
- * @property {Line} line
- * @property {Line|null} output
- * @property {Line|null} hold
- * @property {Line[]} delays  of timers
- * @property {Line[]} arrows
- */
-
-/**
- * The lines of a table, by what they are about. `header` is the line `krossvil table`.
- * @typedef {Object} Lines
- * @property {Line} header
- * @property {Map<string, Line>} heads
- * @property {Line[]} timers
- * @property {Block[]} blocks
- * @property {Line[]} rest
- */
+/** @typedef {import('./table-lines.js').Block} Block */
+/** @typedef {import('./table-lines.js').Lines} Lines */
 
 /** @typedef {{bytes: Uint8Array, origins: Origin[]}} Read */
 
-const HEADS = ['cycle', 'inputs', 'outputs', 'start'];
-const WORDS = [...HEADS, 'timer', 'state', 'output', 'hold', 'bytes'];
-const MOST_BYTE = 255;
 const MOST_NUMBER = 0xffffffff;
 const MOST_MEMBER = 31;
 const MOST_FIELD = 65535;
-
-/**
- * The keyword that a line begins with; a name in quotation marks is none.
- * @param {Line} line
- */
-function keyword(line) {
-  const [first] = line.tokens;
-  return first.kind === 'word' ? first.text : '';
-}
-
-/**
- * @param {Line} line @param {string} word
- */
-function secondIs(line, word) {
-  return line.tokens[1]?.kind === 'word' && line.tokens[1].text === word;
-}
-
-/**
- * Puts a line where it belongs; false if no part of a table is like this.
- * @param {Lines} lines @param {Line} line @param {Reading} reading
- */
-function put(lines, line, reading) {
-  const word = keyword(line);
-  const block = lines.blocks[lines.blocks.length - 1];
-  const second = (/** @type {Line|null|undefined} */ given, /** @type {string} */ says) => {
-    if (given) reading.mistakes.add(line.number, line.tokens[0], says);
-  };
-  if (word === 'state' && !line.tokens.some((token) => token.kind === 'arrow')) {
-    lines.blocks.push({ line, output: null, hold: null, delays: [], arrows: [] });
-  } else if (line.tokens.some((token) => token.kind === 'arrow')) {
-    if (block) block.arrows.push(line);
-    else orphan(reading, line, 'an arrow');
-  } else if (word === 'bytes') {
-    lines.rest.push(line);
-  } else if ((word === 'output' || word === 'hold') && block) {
-    second(block[word], `a second '${word}' for one state`);
-    block[word] = line;
-  } else if (HEADS.includes(word)) {
-    second(lines.heads.get(word), `a second '${word}' for one table`);
-    lines.heads.set(word, line);
-  } else if (word === 'timer') {
-    lines.timers.push(line);
-  } else if (secondIs(line, 'delays') && block) {
-    block.delays.push(line);
-  } else {
-    return false;
-  }
-  return true;
-}
-
-/**
- * A line that belongs under a state, where none was begun. The state that it was meant for is likely missing.
- * @param {Reading} reading @param {Line} line @param {string} what
- */
-function orphan(reading, line, what) {
-  reading.unsound.add('state');
-  reading.mistakes.once('orphan', line.number, line.tokens[0], () => `${what} belongs under a state`);
-}
-
-/**
- * @param {Reading} reading @param {Line} line
- */
-function notUnderstood(reading, line) {
-  const [first, second] = line.tokens;
-  if (['output', 'hold'].includes(keyword(line))) return orphan(reading, line, `'${first.text}'`);
-  if (secondIs(line, 'delays')) return orphan(reading, line, "'delays'");
-  const meant = didYouMean(first.text, WORDS);
-  const delays = second && !meant ? didYouMean(second.text, ['delays']) : '';
-  const [wrong, hint] = second && delays ? [second, delays] : [first, meant];
-  return reading.mistakes.add(line.number, wrong, `'${wrong.text}' is not understood here${hint}`);
-}
-
-/**
- * @param {Reading} reading @param {Line} header @param {Line[]} body
- * @returns {Lines}
- */
-function sorted(reading, header, body) {
-  /** @type {Lines} */
-  const lines = { header, heads: new Map(), timers: [], blocks: [], rest: [] };
-  for (const line of body) {
-    if (reading.mistakes.stop()) break;
-    if (!put(lines, line, reading)) notUnderstood(reading, line);
-  }
-  lines.blocks = upToByte(reading, lines.blocks, (block) => block.line, 'state');
-  lines.timers = upToByte(reading, lines.timers, (line) => line, 'timer');
-  return lines;
-}
-
-/**
- * As many as a byte can count; more are a mistake.
- * @template T
- * @param {Reading} reading @param {T[]} all @param {(one: T) => Line} lineOf @param {string} what @param {(one: T) => Token|null} [tokenOf]
- */
-function upToByte(reading, all, lineOf, what, tokenOf = () => null) {
-  const one = all[MOST_BYTE];
-  if (one === undefined) return all;
-  reading.mistakes.add(lineOf(one).number, tokenOf(one), `more than ${MOST_BYTE} ${what}s do not fit in a byte`);
-  return all.slice(0, MOST_BYTE);
-}
-
-/**
- * The names that a line lists after its first word.
- * @param {Reading} reading @param {Line|undefined} line @param {'input'|'output'} what
- * @returns {string[]}
- */
-function readNames(reading, line, what) {
-  if (!line) {
-    reading.unsound.add(what);
-    return [];
-  }
-  const before = reading.mistakes.count;
-  const listed = reading.listed(line, line.tokens.slice(1), `${what}s`);
-  const tokens = upToByte(reading, listed, () => line, what, (token) => token);
-  for (const [k, token] of tokens.entries()) {
-    const twice = tokens.findIndex((other) => other.text === token.text) < k;
-    if (reading.isName(line, token) && twice) reading.mistakes.add(line.number, token, `'${token.text}' stands twice`);
-  }
-  if (reading.mistakes.count > before) reading.unsound.add(what);
-  return tokens.map((token) => token.text);
-}
-
-/**
- * The names that stand second in lines, as those of states and timers.
- * @param {Reading} reading @param {Line[]} lines @param {'state'|'timer'} what
- * @returns {string[]}
- */
-function readSecondNames(reading, lines, what) {
-  const before = reading.mistakes.count;
-  const names = lines.map((line) => line.tokens[1]?.text ?? '');
-  for (const [k, line] of lines.entries()) {
-    const token = line.tokens[1];
-    if (!token) reading.mistakes.add(line.number, behind(line), `the ${what}'s name is missing`);
-    else if (reading.isName(line, token) && names.indexOf(token.text) < k) {
-      reading.mistakes.add(line.number, token, `a second ${what} '${token.text}'`);
-    }
-    if (what === 'state') reading.tooMany(line, line.tokens[2]);
-  }
-  if (reading.mistakes.count > before) reading.unsound.add(what);
-  return names;
-}
 
 /** What is gathered of a table while it is read. */
 class Gathered {
@@ -282,7 +121,7 @@ function readOutput(g, block, q) {
 function readHold(g, block, q) {
   const line = block.hold;
   if (g.lines.timers.length > 0) {
-    if (line) g.reading.mistakes.add(line.number, line.tokens[0], "a table with timers has no holds: give the state a timer of its own");
+    if (line) g.reading.mistakes.add(line.number, line.tokens[0], 'a table with timers has no holds: give the state a timer of its own');
     return [0, 0];
   }
   g.came(g.places.hold(q), 4, line ?? block.line, line ? [line.tokens[1]] : []);
@@ -429,16 +268,13 @@ function readRaw(reading, body) {
 }
 
 /**
- * @param {Reading} reading @param {Lines} lines
- * @returns {Names}
+ * A table of bytes alone. If no names were given, its members have plain ones.
+ * @param {Reading} reading @param {Line[]} body
  */
-function namesOf(reading, lines) {
-  return {
-    states: readSecondNames(reading, lines.blocks.map((block) => block.line), 'state'),
-    inputs: readNames(reading, lines.heads.get('inputs'), 'input'),
-    outputs: readNames(reading, lines.heads.get('outputs'), 'output'),
-    timers: readSecondNames(reading, lines.timers, 'timer'),
-  };
+function readNameless(reading, body) {
+  const read = readRaw(reading, body);
+  reading.names ??= decodeTable(read.bytes)?.names ?? null;
+  return read;
 }
 
 /**
@@ -449,9 +285,9 @@ function namesOf(reading, lines) {
 export function readTable(reading, header, body, whole) {
   const { mistakes } = reading;
   const before = mistakes.count;
-  if (body.length > 0 && body.every((line) => keyword(line) === 'bytes')) return readRaw(reading, body);
-  const lines = sorted(reading, header, body);
-  const names = namesOf(reading, lines);
+  if (body.length > 0 && body.every((line) => keyword(line) === 'bytes')) return readNameless(reading, body);
+  const lines = sortLines(reading, header, body);
+  const names = readNames(reading, lines);
   reading.names = names;
   const g = new Gathered(reading, lines, names);
   const rest = readRaw(reading, lines.rest);

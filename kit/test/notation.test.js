@@ -202,6 +202,13 @@ test('names without a table are one mistake', () => {
   assert.deepEqual(readText(journal, readText(sample('classroom')).names).mistakes, []);
 });
 
+test('the members of a table of bytes have plain names', () => {
+  const bytes = '01 00 04 02 02 02 00 02 00 04 00 00 00 03 03 00 02 00 01 04 00 04 00 01 00 01 '
+    + '05 00 08 00 00 00 00 00 00 00 05 06 00 08 00 00 00 00 00 00 00 01';
+  const { mistakes, parts, names } = readText(`krossvil table\nbytes ${bytes}\nkrossvil journal\ninput i0\n1 tick q1\n`);
+  assert.deepEqual([mistakes, parts.length, names.states], [[], 2, ['q0', 'q1']]);
+});
+
 test('every sample is a sound text', () => {
   for (const { name } of EXAMPLES) assert.deepEqual(readText(sample(name)).mistakes, [], name);
 });
