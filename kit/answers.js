@@ -2,10 +2,13 @@
 
 import { counted, listed, quoted, thousands } from './names.js';
 import { members } from './sets.js';
+import { accepted, clocks } from './trace.js';
 
 /** @typedef {import('./types.js').Table} Table */
 /** @typedef {import('./types.js').Acceptance} Acceptance */
 /** @typedef {import('./types.js').Explanation} Explanation */
+/** @typedef {import('./types.js').Trace} Trace */
+/** @typedef {import('./types.js').Clock} Clock */
 
 /**
  * @param {string[]} names @param {number} set
@@ -41,6 +44,32 @@ export function sayAcceptance({ names, cycle }, answer) {
   if (cycles > 0) sentences.push(`Its longest cycle took ${thousands(longest)}, of at most ${thousands(cycle)}.`);
   if (left > 0) sentences.push(`At a held test up to ${thousands(left)} was left until the hold was passed.`);
   return sentences;
+}
+
+/**
+ * @param {Trace} trace @param {Clock} clock @param {number} now
+ */
+function sayClock({ names }, clock, now) {
+  const what = clock.timer === null ? 'Its hold' : `Timer ${quoted(names.timers, clock.timer)}`;
+  const free = clock.from + clock.length + 1;
+  const runs = `${what} of ${thousands(clock.length)} runs since ${thousands(clock.from)} and delays ${named(names.inputs, clock.delays)}`;
+  return free > now ? `${runs}: the first test that can be free is at ${thousands(free)}, in ${thousands(free - now)}.`
+    : `${runs}; it is passed since ${thousands(free)}.`;
+}
+
+/**
+ * What holds at the end of what was accepted, and for how long.
+ * @param {Trace} trace
+ * @returns {string[]}
+ */
+export function sayLeft(trace) {
+  const last = accepted(trace)[accepted(trace).length - 1];
+  if (!last?.after) return ['Not even the opening is accepted.'];
+  const now = last.record.time;
+  const state = `At ${thousands(now)} the state is ${quoted(trace.names.states, last.after.state)}, entered at ${thousands(last.after.entry)}.`;
+  const delaying = clocks(trace.table, last.after).filter(({ delays }) => delays !== 0);
+  if (delaying.length === 0) return [state, 'Nothing is delayed in it.'];
+  return [state, ...delaying.map((clock) => sayClock(trace, clock, now))];
 }
 
 /**

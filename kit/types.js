@@ -183,6 +183,7 @@
  * answers.js exports, for what is no refusal
  *   acceptanceLine(answer: Acceptance): string      the line of `checkjournal`;  refusalLine(refusal: Refusal): string
  *   sayAcceptance(table: Table, answer: Acceptance): string[]
+ *   sayLeft(trace: Trace): string[]                 what holds at the end of what was accepted, and for how long
  *   sayReaction(table, question, answer), sayPath(table, path), saySalvage(answer, explanation), sayConverted(changed),
  *   sayDwell(table, report): string[]
  */
@@ -242,6 +243,10 @@
  *   recordBytes(form: Form, kind: Kind, written: number, value: number): number[]
  *   formOf(bytes: Uint8Array): 'table'|Form              what the first bytes show; it is a guess for broken ones
  *   FORMS: tags, widths and limits of the forms
+ * rerun.js exports
+ *   rerun(library: Library, given: {table: Uint8Array, journal: Uint8Array, form: Form}): the run of a journal's own stimulus, and every
+ *       record that differs from it: {ok: true, bytes, differences: {number, record, own}[]}, or the refusal of the stimulus, or null
+ *   stimulusOf(journal: Uint8Array, form: Form): Uint8Array|null     null if something in the journal is no record
  * names.js: plainNames, fittingNames, quoted, listed, counted, numbered, thousands; sets.js: has, members, setOf, wholeSet
  * examples.js: EXAMPLES, exampleFile
  */

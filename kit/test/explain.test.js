@@ -1,6 +1,6 @@
 import assert from 'node:assert/strict';
 import { test } from 'node:test';
-import { sayConverted, sayDwell, sayPath, sayReaction, saySalvage } from '../answers.js';
+import { sayConverted, sayDwell, sayLeft, sayPath, sayReaction, saySalvage } from '../answers.js';
 import { EXAMPLES } from '../examples.js';
 import { MEANINGS, explainJournal, explainReaction, explainRefusal, explainRoom } from '../explain.js';
 import { decodeTable } from '../fields.js';
@@ -85,6 +85,14 @@ test('more slips: measured at the tick, a timer started again, the state changed
     assert.equal(trace.refused?.number, 28, journal);
     assert.equal(explainJournal(trace).slipName, slip, journal);
   }
+});
+
+test('what holds at the end', () => {
+  assert.deepEqual(sayLeft(exampleOf('classroom').trace), ["At 12 the state is 'idle', entered at 11.", 'Nothing is delayed in it.']);
+  assert.deepEqual(sayLeft(exampleOf('changed-verdict').trace), ["At 7 the state is 'busy', entered at 3.",
+    "Its hold of 5 runs since 3 and delays 'no_train': the first test that can be free is at 9, in 2."]);
+  assert.deepEqual(sayLeft(exampleOf('torn-journal').trace)[1], "Its hold of 5 runs since 3 and delays 'no_train'; it is passed since 9.");
+  assert.match(sayLeft(exampleOf('gas-burner').trace)[1], /Timer 'vent' of 12 runs since 26 and delays 'heat': .* at 39, in 6/);
 });
 
 test('other answers in sentences', () => {

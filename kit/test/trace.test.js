@@ -3,9 +3,10 @@ import { test } from 'node:test';
 import { sayAcceptance } from '../answers.js';
 import { MEANINGS, explainJournal, explainTable, isTableRefusal, narrate } from '../explain.js';
 import { decodeTable } from '../fields.js';
+import { rerun, stimulusOf } from '../rerun.js';
 import { accepted, inputs, left, ownValue, regionVisits, traceJournal, traceStimulus, visits } from '../trace.js';
 import { Chance } from './chance.js';
-import { library } from './core.js';
+import { library, sameBytes } from './core.js';
 import { drawRun, perhapsDamaged } from './draw.js';
 
 const ROUNDS = 6000;
@@ -115,6 +116,28 @@ test('the value that an explanation of 28 names removes the 28 from its place', 
     const mended = traceJournal(library, { table: run.bytes, journal, form });
     assert.ok(mended.at === null || mended.at > trace.at, `seed ${seed}`);
     tried++;
+  }
+});
+
+test('a journal against the run of its own stimulus', () => {
+  for (let seed = 0; seed < 2000; seed++) {
+    const { run, form, bytes } = drawn(seed);
+    assert.ok(sameBytes(stimulusOf(run[form], form), run.stimulus));
+    assert.deepEqual(rerun(library, { table: run.bytes, journal: run[form], form }), { ok: true, bytes: run.journal, differences: [] });
+    const trace = traceJournal(library, { table: run.bytes, journal: bytes, form });
+    const again = rerun(library, { table: run.bytes, journal: bytes, form });
+    const aboutValue = [23, 28].includes(trace.refused?.number); // what the stimulus does not say
+    if (!again) {
+      assert.ok(trace.steps.some(({ record }) => record.kind === 'bytes' && record.length > 0));
+    } else if (again.ok && trace.refused) {
+      assert.ok(aboutValue);
+      assert.equal(again.differences[0].number, trace.stop);
+      if (trace.refused.number === 28) assert.equal(again.differences[0].own, ownValue(trace, trace.steps[trace.stop]));
+    } else if (again.ok) {
+      assert.deepEqual(again.differences, []);
+    } else if (!aboutValue && (form !== 'stamped' || trace.long)) {
+      assert.equal(again.record, trace.stop);
+    }
   }
 });
 
