@@ -66,7 +66,8 @@ export function sayLeft(trace) {
   const last = accepted(trace)[accepted(trace).length - 1];
   if (!last?.after) return ['Not even the opening is accepted.'];
   const now = last.record.time;
-  const state = `At ${thousands(now)} the state is ${quoted(trace.names.states, last.after.state)}, entered at ${thousands(last.after.entry)}.`;
+  const { state: q, entry } = last.after;
+  const state = `At ${thousands(now)} the state is ${quoted(trace.names.states, q)}, entered at ${thousands(entry)}.`;
   const delaying = clocks(trace.table, last.after).filter(({ delays }) => delays !== 0);
   if (delaying.length === 0) return [state, 'Nothing is delayed in it.'];
   return [state, ...delaying.map((clock) => sayClock(trace, clock, now))];

@@ -30,7 +30,8 @@ test(`each number has a sample and a sentence: ${REFUSALS.length} samples`, () =
   const uncalled = [32, 33]; // of the calculator for several moves
   assert.deepEqual([...MEANINGS.keys()].filter((number) => !sampled.has(number)), uncalled);
   const table = decodeTable(readText(sample('classroom')).parts[0].bytes);
-  assert.match(explainReaction(table, { number: 32, place: 0 }, { states: 3, inputs: 1, moves: 33 }).sentences[0], /33 moves were asked for; at most 32/);
+  const question = { states: 3, inputs: 1, moves: 33 };
+  assert.match(explainReaction(table, { number: 32, place: 0 }, question).sentences[0], /33 moves were asked for; at most 32/);
   assert.match(explainReaction(table, { number: 33, place: 0 }, { states: 3, inputs: 1 }).sentences[0], /too short for so many moves/);
 });
 
@@ -62,28 +63,38 @@ test('the five errors of students, and the other examples', () => {
     assert.match(blamed, line);
     if (says) assert.match(explanation.slip, says);
   }
-  for (const name of ['classroom', 'watchdog', 'gas-burner', 'short-journal', 'stamped-journal']) assert.equal(exampleOf(name).trace.refused, null, name);
+  const runs = ['classroom', 'watchdog', 'gas-burner', 'short-journal', 'stamped-journal'];
+  for (const name of runs) assert.equal(exampleOf(name).trace.refused, null, name);
   assert.ok(EXAMPLES.every(({ name }) => sample(name).startsWith('krossvil')));
 });
 
-test('more slips: measured at the tick, a timer started again, the state changed twice', () => {
-  const head = sample('classroom').split('\nkrossvil ')[0];
-  const tries = [
-    [head, 'input train\n1 poll train\n1 test free\n2 tick busy\n2 change no_train\n3 poll no_train\n3 test held\n4 tick busy\n5 poll no_train\n5 test held\n'
-      + '6 tick busy\n7 poll no_train\n7 test free\n8 tick idle\n8 end', 'hold-reached'],
-    [head.replace('cycle   3', 'cycle   4'), 'input train\n1 poll train\n2 test free\n2 tick busy\n2 change no_train\n4 poll no_train\n5 test free\n6 tick idle\n6 end', null],
-    [head.replace('cycle   3', 'cycle   4').replace('hold 5', 'hold 3'), 'input train\n1 poll train\n2 test free\n2 tick busy\n2 change no_train\n4 poll no_train\n4 test free\n6 tick idle\n6 end', 'wrong-instant'],
-    [sample('gas-burner').split('\nkrossvil ')[0], 'input off\n1 change heat\n2 poll heat\n2 test free\n3 tick purge\n5 poll heat\n6 test held\n7 tick purge\n9 poll heat\n'
-      + '10 test held\n11 tick purge\n12 poll heat\n13 test held\n14 tick purge\n14 end', 'hold-restarted'],
-    [head.replace(/train {4}-> busy\s*$/, 'train    -> idle\n'), 'input train\n1 poll train\n1 test free\n2 tick idle\n2 end', 'move-at-test'],
-    [head, 'input train\n1 poll train\n1 test free\n2 tick busy\n2 change no_train\n4 poll no_train\n5 test held\n5 tick busy\n7 poll no_train\n7 test held\n8 tick idle\n8 end', 'wrong-instant'],
-  ];
-  for (const [table, journal, slip] of tries) {
-    const { parts, names, mistakes } = readText(`${table}\nkrossvil journal\n${journal}\n`);
+/** Tables and journals, a record to each semicolon, and the slip that is named. */
+const HEAD = sample('classroom').split('\nkrossvil ')[0];
+const TO_BUSY = 'input train; 1 poll train; 1 test free; 2 tick busy; 2 change no_train; ';
+const LATE_TO_BUSY = 'input train; 1 poll train; 2 test free; 2 tick busy; 2 change no_train; ';
+const SLIPS = [
+  ['the hold is reached', HEAD, 'hold-reached', `${TO_BUSY} 3 poll no_train; 3 test held; 4 tick busy; 5 poll no_train; 5 test held; `
+    + '6 tick busy; 7 poll no_train; 7 test free; 8 tick idle; 8 end'],
+  ['measured at the tick', HEAD.replace('cycle   3', 'cycle   4').replace('hold 5', 'hold 3'), 'wrong-instant',
+    `${LATE_TO_BUSY} 4 poll no_train; 4 test free; 6 tick idle; 6 end`],
+  ['measured once more at the tick', HEAD, 'wrong-instant',
+    `${TO_BUSY} 4 poll no_train; 5 test held; 5 tick busy; 7 poll no_train; 7 test held; 8 tick idle; 8 end`],
+  ['a timer is started again', sample('gas-burner').split('\nkrossvil ')[0], 'hold-restarted',
+    'input off; 1 change heat; 2 poll heat; 2 test free; 3 tick purge; 5 poll heat; 6 test held; 7 tick purge; 9 poll heat; '
+    + '10 test held; 11 tick purge; 12 poll heat; 13 test held; 14 tick purge; 14 end'],
+  ['the state changes twice', HEAD.replace(/train {4}-> busy\s*$/, 'train    -> idle\n'), 'move-at-test',
+    'input train; 1 poll train; 1 test free; 2 tick idle; 2 end'],
+  ['no slip explains it', HEAD.replace('cycle   3', 'cycle   4'), null,
+    `${LATE_TO_BUSY} 4 poll no_train; 5 test free; 6 tick idle; 6 end`],
+];
+
+test(`slips that have no example of their own: ${SLIPS.length}`, () => {
+  for (const [what, table, slip, journal] of SLIPS) {
+    const { parts, names, mistakes } = readText(`${table}\nkrossvil journal\n${journal.replaceAll(';', '\n')}\n`);
     assert.deepEqual(mistakes, []);
     const trace = traceJournal(library, { table: parts[0].bytes, journal: parts[1].bytes, names });
-    assert.equal(trace.refused?.number, 28, journal);
-    assert.equal(explainJournal(trace).slipName, slip, journal);
+    assert.equal(trace.refused?.number, 28, what);
+    assert.equal(explainJournal(trace).slipName, slip, what);
   }
 });
 
@@ -100,13 +111,16 @@ test('other answers in sentences', () => {
   const table = decodeTable(parts[0].bytes, names);
   const question = { states: 3, inputs: 1 };
   assert.deepEqual(sayReaction(table, question, library.reaction(parts[0].bytes, 3, 1)),
-    ["As long as the state is one of 'idle' and 'busy' and the input one of 'no_train', it takes at most 14 until the state is one of 'idle'."]);
+    ["As long as the state is one of 'idle' and 'busy' and the input one of 'no_train', it takes at most 14 until the state is one "
+      + "of 'idle'."]);
   assert.match(sayReaction(table, question, { time: 14, target: 1, tight: 12 })[1], /12 is enough/);
   assert.match(sayPath(table, [1, 0, 0]), /'busy' under 'no_train' to 'idle'/);
   const torn = exampleOf('torn-journal');
   const salvaged = library.salvage(torn.trace.tableBytes, torn.trace.journal);
-  assert.match(saySalvage(salvaged, torn.explanation).join(' '), /first 92 bytes are kept.*21 bytes are dropped. It was stopped by refusal 20 at 108/);
-  assert.deepEqual(saySalvage(library.salvage(parts[0].bytes, parts[2].bytes), null), ['The journal is accepted as it is, and comes back unchanged.']);
+  assert.match(saySalvage(salvaged, torn.explanation).join(' '),
+    /first 92 bytes are kept.*21 bytes are dropped. It was stopped by refusal 20 at 108/);
+  assert.deepEqual(saySalvage(library.salvage(parts[0].bytes, parts[2].bytes), null),
+    ['The journal is accepted as it is, and comes back unchanged.']);
   const old = library.convertTable(readText(sample('old-table')).parts[0].bytes);
   assert.match(sayConverted(old.changed)[0], /In 1 state without a hold/);
   assert.deepEqual(library.checkTable(old.bytes), { ok: true });
