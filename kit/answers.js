@@ -1,6 +1,6 @@
 /** Answers that are no refusals, in sentences, with the names of the case. The numbers are the library's. */
 
-import { counted, listed, quoted, thousands } from './names.js';
+import { counted, listed, quoted, say } from './names.js';
 import { members } from './sets.js';
 import { accepted, clocks } from './trace.js';
 
@@ -39,10 +39,10 @@ export function refusalLine({ number, place }) {
  */
 export function sayAcceptance({ names, cycle }, answer) {
   const { end, cycles, moves, state, output, left, longest } = answer;
-  const sentences = [`The journal is a run of this table. It ends at ${thousands(end)} in state ${quoted(names.states, state)} with output `
-    + `${quoted(names.outputs, output)}, after ${counted(cycles, 'cycle')} and ${counted(moves, 'move')}.`];
-  if (cycles > 0) sentences.push(`Its longest cycle took ${thousands(longest)}, of at most ${thousands(cycle)}.`);
-  if (left > 0) sentences.push(`At a held test up to ${thousands(left)} was left until the hold was passed.`);
+  const sentences = [say`The journal is a run of this table. It ends at ${end} in state ${quoted(names.states, state)} with output `
+    + say`${quoted(names.outputs, output)}, after ${counted(cycles, 'cycle')} and ${counted(moves, 'move')}.`];
+  if (cycles > 0) sentences.push(say`Its longest cycle took ${longest}, of at most ${cycle}.`);
+  if (left > 0) sentences.push(say`At a held test up to ${left} was left until the hold was passed.`);
   return sentences;
 }
 
@@ -50,11 +50,11 @@ export function sayAcceptance({ names, cycle }, answer) {
  * @param {Trace} trace @param {Clock} clock @param {number} now
  */
 function sayClock({ names }, clock, now) {
-  const what = clock.timer === null ? 'Its hold' : `Timer ${quoted(names.timers, clock.timer)}`;
+  const what = clock.timer === null ? 'Its hold' : say`Timer ${quoted(names.timers, clock.timer)}`;
   const free = clock.from + clock.length + 1;
-  const runs = `${what} of ${thousands(clock.length)} runs since ${thousands(clock.from)} and delays ${named(names.inputs, clock.delays)}`;
-  return free > now ? `${runs}: the first test that can be free is at ${thousands(free)}, in ${thousands(free - now)}.`
-    : `${runs}; it is passed since ${thousands(free)}.`;
+  const runs = say`${what} of ${clock.length} runs since ${clock.from} and delays ${named(names.inputs, clock.delays)}`;
+  return free > now ? say`${runs}: the first test that can be free is at ${free}, in ${free - now}.`
+    : say`${runs}; it is passed since ${free}.`;
 }
 
 /**
@@ -67,7 +67,7 @@ export function sayLeft(trace) {
   if (!last?.after) return ['Not even the opening is accepted.'];
   const now = last.record.time;
   const { state: q, entry } = last.after;
-  const state = `At ${thousands(now)} the state is ${quoted(trace.names.states, q)}, entered at ${thousands(entry)}.`;
+  const state = say`At ${now} the state is ${quoted(trace.names.states, q)}, entered at ${entry}.`;
   const delaying = clocks(trace.table, last.after).filter(({ delays }) => delays !== 0);
   if (delaying.length === 0) return [state, 'Nothing is delayed in it.'];
   return [state, ...delaying.map((clock) => sayClock(trace, clock, now))];
@@ -80,11 +80,11 @@ export function sayLeft(trace) {
  */
 export function sayReaction({ names }, question, answer) {
   const [states, inputs] = [named(names.states, question.states), named(names.inputs, question.inputs)];
-  const over = question.moves === undefined ? '' : ` over ${counted(question.moves, 'move')}`;
-  const sentences = [`As long as the state is one of ${states} and the input one of ${inputs}, it takes at most `
-    + `${thousands(answer.time)}${over} until the state is one of ${named(names.states, answer.target)}.`];
+  const over = question.moves === undefined ? '' : say` over ${counted(question.moves, 'move')}`;
+  const sentences = [say`As long as the state is one of ${states} and the input one of ${inputs}, it takes at most `
+    + say`${answer.time}${over} until the state is one of ${named(names.states, answer.target)}.`];
   if (answer.target === 0) sentences.push('No state is left to be in: this never lasts so long.');
-  if (answer.tight !== undefined) sentences.push(`In whole units ${thousands(answer.tight)} is enough.`);
+  if (answer.tight !== undefined) sentences.push(say`In whole units ${answer.tight} is enough.`);
   return sentences;
 }
 
@@ -94,8 +94,8 @@ export function sayReaction({ names }, question, answer) {
  */
 export function sayPath({ names }, path) {
   if (path.length === 0) return 'There is no state outside the target to wait in.';
-  const steps = path.map((member, k) => (k % 2 === 0 ? quoted(names.states, member) : `under ${quoted(names.inputs, member)} to`));
-  return `The longest way: ${steps.join(' ')}.`;
+  const steps = path.map((member, k) => (k % 2 === 0 ? quoted(names.states, member) : say`under ${quoted(names.inputs, member)} to`));
+  return say`The longest way: ${steps.join(' ')}.`;
 }
 
 /**
@@ -106,8 +106,8 @@ export function sayPath({ names }, path) {
 export function saySalvage({ kept, dropped, number, place }, why) {
   if (number === 0) return ['The journal is accepted as it is, and comes back unchanged.'];
   const upTo = kept === 4 ? 'the opening' : 'the last sound tick';
-  const sentences = [`The first ${counted(kept, 'byte')} are kept, up to ${upTo}, and an end is added; `
-    + `${counted(dropped, 'byte')} ${dropped === 1 ? 'is' : 'are'} dropped.`, `It was stopped by refusal ${number} at ${place}.`];
+  const sentences = [say`The first ${counted(kept, 'byte')} are kept, up to ${upTo}, and an end is added; `
+    + say`${counted(dropped, 'byte')} ${dropped === 1 ? 'is' : 'are'} dropped.`, say`It was stopped by refusal ${number} at ${place}.`];
   return why ? [...sentences, ...why.sentences] : sentences;
 }
 
@@ -117,7 +117,7 @@ export function saySalvage({ kept, dropped, number, place }, why) {
  */
 export function sayConverted(changed) {
   if (changed === 0) return ['The table passes as it is, and comes back unchanged.'];
-  return [`In ${counted(changed, 'state')} without a hold the delayed inputs were taken out, which never had an effect.`];
+  return [say`In ${counted(changed, 'state')} without a hold the delayed inputs were taken out, which never had an effect.`];
 }
 
 /**
@@ -129,9 +129,9 @@ export function sayDwell({ names }, { journals, dwell, pairs, entries }) {
   const all = dwell.reduce((sum, each) => sum + each, 0);
   const share = (/** @type {number} */ slots) => (all === 0 ? '0.0' : (100 * slots / all).toFixed(1));
   const states = dwell.map((slots, q) => {
-    const by = listed(pairs[q].flatMap((each, a) => (each > 0 ? [`${thousands(each)} with ${quoted(names.inputs, a)}`] : [])));
-    const time = `${thousands(slots)} of the time (${share(slots)} %)${by ? `, ${by}` : ''}`;
-    return `State ${quoted(names.states, q)}: ${time}; entered ${counted(entries[q], 'time')}.`;
+    const by = listed(pairs[q].flatMap((each, a) => (each > 0 ? [say`${each} with ${quoted(names.inputs, a)}`] : [])));
+    const time = say`${slots} of the time (${share(slots)} %)${by ? say`, ${by}` : ''}`;
+    return say`State ${quoted(names.states, q)}: ${time}; entered ${counted(entries[q], 'time')}.`;
   });
-  return [`${counted(journals, 'journal')} of ${thousands(all)} in all.`, ...states];
+  return [say`${counted(journals, 'journal')} of ${all} in all.`, ...states];
 }

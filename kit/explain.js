@@ -5,7 +5,7 @@
 
 import { explainTrace } from './explain/records.js';
 import { explainTable, isTableRefusal } from './explain/table.js';
-import { counted, numbered, quoted, thousands } from './names.js';
+import { counted, numbered, quoted, say } from './names.js';
 import { has, members } from './sets.js';
 
 export { explainTable, isTableRefusal } from './explain/table.js';
@@ -71,7 +71,7 @@ export function explainJournal(trace) {
 function explainMember(table, set, which) {
   const count = table.counts[which];
   const [first] = members(set).filter((member) => member >= count);
-  return plain([`The set of ${which} names number ${first}, but ${numbered(count, which === 'states' ? 'state' : 'input')}.`]);
+  return plain([say`The set of ${which} names number ${first}, but ${numbered(count, which === 'states' ? 'state' : 'input')}.`]);
 }
 
 /**
@@ -81,8 +81,10 @@ function explainOutside(table, place, { states }) {
   const [p, a] = [Math.floor(place / table.counts.inputs), place % table.counts.inputs];
   const { names } = table;
   const [from, input, to] = [quoted(names.states, p), quoted(names.inputs, a), quoted(names.states, table.next[p][a])];
-  const sentences = ['The states do not hold together under these inputs: '
-    + `from ${from} input ${input} leads to ${to}, which is not among them.`, `Add ${to} to the states, or leave ${from} or ${input} out.`];
+  const sentences = [
+    say`The states do not hold together under these inputs: from ${from} input ${input} leads to ${to}, which is not among them.`,
+    say`Add ${to} to the states, or leave ${from} or ${input} out.`,
+  ];
   return plain(has(states, p) ? sentences : sentences.slice(0, 1), place);
 }
 
@@ -95,7 +97,7 @@ export function explainReaction(table, { number, place }, question) {
   if (number === 9) return explainMember(table, place === 0 ? question.states : question.inputs, place === 0 ? 'states' : 'inputs');
   if (number === 10) return explainOutside(table, place, question);
   if (number === 14) return plain(['This table has timers. Reaction times are calculated for tables with holds.']);
-  if (number === 32) return plain([`${thousands(question.moves ?? 0)} moves were asked for; at most 32 are calculated.`]);
+  if (number === 32) return plain([say`${question.moves ?? 0} moves were asked for; at most 32 are calculated.`]);
   return explainRoom({ number, place });
 }
 
@@ -107,14 +109,14 @@ export function explainReaction(table, { number, place }, question) {
 export function explainRoom({ number }, given = {}) {
   if (number === 34) {
     const records = Math.floor(((given.bytes ?? 0) - 9) / 6);
-    const long = given.bytes ? `would have ${thousands(11 + 8 * records)} bytes` : 'would be too long';
-    return plain([`Written out, the journal that this short journal stands for ${long}; a journal has at most 65,536.`,
+    const long = given.bytes ? say`would have ${11 + 8 * records} bytes` : 'would be too long';
+    return plain([say`Written out, the journal that this short journal stands for ${long}; a journal has at most 65,536.`,
       'The short journal itself can be checked as it is.']);
   }
   if (number === 35) return plain(['The report has 1,000 journals already, and takes no more. Begin a new one.']);
   if (number === 33) return plain(['The memory for the sums, or for the path, is too short for so many moves.']);
-  const numbers = given.numbers === undefined ? '' : ` The report has room for ${counted(given.numbers, 'number')}.`;
-  return plain([`The memory that was lent is too short for what is to be written.${numbers}`]);
+  const numbers = given.numbers === undefined ? '' : say` The report has room for ${counted(given.numbers, 'number')}.`;
+  return plain([say`The memory that was lent is too short for what is to be written.${numbers}`]);
 }
 
 /**

@@ -64,6 +64,14 @@ export function numbered(count, word) {
 }
 
 /**
+ * A sentence: a template in which numbers are written as `thousands` writes them.
+ * @param {TemplateStringsArray} strings @param {(string|number)[]} values
+ */
+export function say(strings, ...values) {
+  return String.raw({ raw: strings }, ...values.map((value) => (typeof value === 'number' ? thousands(value) : value)));
+}
+
+/**
  * A number as it stands in a sentence: from five digits on with commas.
  * @param {number} number
  */

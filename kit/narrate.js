@@ -1,6 +1,6 @@
 /** An accepted record in a sentence: what it did, and why it is so. */
 
-import { listed, quoted, thousands } from './names.js';
+import { listed, quoted, say } from './names.js';
 import { has } from './sets.js';
 import { clocks, holding, left } from './trace.js';
 
@@ -14,16 +14,16 @@ import { clocks, holding, left } from './trace.js';
  */
 function change({ names }, { record }, m) {
   const input = quoted(names.inputs, record.value ?? 0);
-  return m.present === record.value ? `The card repeats its reading, ${input}.` : `The input becomes ${input}.`;
+  return m.present === record.value ? say`The card repeats its reading, ${input}.` : say`The input becomes ${input}.`;
 }
 
 /**
  * @param {Trace} trace @param {number} time @param {Clock} clock
  */
 function sum(trace, time, clock) {
-  const name = clock.timer === null ? '' : ` (timer ${quoted(trace.names.timers, clock.timer)})`;
+  const name = clock.timer === null ? '' : say` (timer ${quoted(trace.names.timers, clock.timer)})`;
   const since = time - clock.from;
-  return `${time} - ${clock.from} = ${since} is ${since > clock.length ? 'more than' : 'at most'} ${clock.length}${name}`;
+  return say`${time} - ${clock.from} = ${since} is ${since > clock.length ? 'more than' : 'at most'} ${clock.length}${name}`;
 }
 
 /**
@@ -34,11 +34,11 @@ function test(trace, step, m) {
   const [state, polled] = [quoted(trace.names.states, m.state), quoted(trace.names.inputs, m.polled)];
   const here = clocks(trace.table, m);
   const delaying = here.filter((clock) => has(clock.delays, m.polled));
-  if (here.length === 0) return `Free: state ${state} has no ${trace.table.kind === 'holds' ? 'hold' : 'timer'}.`;
-  if (delaying.length === 0) return `Free: input ${polled} is not delayed in ${state}.`;
-  if (record.value !== 0) return `Free: ${listed(delaying.map((clock) => sum(trace, record.time, clock)))}, so the hold is passed.`;
+  if (here.length === 0) return say`Free: state ${state} has no ${trace.table.kind === 'holds' ? 'hold' : 'timer'}.`;
+  if (delaying.length === 0) return say`Free: input ${polled} is not delayed in ${state}.`;
+  if (record.value !== 0) return say`Free: ${listed(delaying.map((clock) => sum(trace, record.time, clock)))}, so the hold is passed.`;
   const sums = holding(trace.table, m, record.time).map((clock) => sum(trace, record.time, clock));
-  return `Held: ${polled} is delayed in ${state}, and ${listed(sums)}. ${thousands(left(trace, step))} left until it is passed.`;
+  return say`Held: ${polled} is delayed in ${state}, and ${listed(sums)}. ${left(trace, step)} left until it is passed.`;
 }
 
 /**
@@ -46,9 +46,9 @@ function test(trace, step, m) {
  */
 function tick({ names }, { record }, m) {
   const [from, input] = [quoted(names.states, m.state), quoted(names.inputs, m.polled)];
-  if (m.phase === 2) return `Held, so the state stays ${from}; its entry stays ${m.entry}.`;
-  if (record.value === m.state) return `From ${from} input ${input} leads back to ${from}; the entry stays ${m.entry}.`;
-  return `From ${from} input ${input} leads to ${quoted(names.states, record.value ?? 0)}, entered at ${record.time}.`;
+  if (m.phase === 2) return say`Held, so the state stays ${from}; its entry stays ${m.entry}.`;
+  if (record.value === m.state) return say`From ${from} input ${input} leads back to ${from}; the entry stays ${m.entry}.`;
+  return say`From ${from} input ${input} leads to ${quoted(names.states, record.value ?? 0)}, entered at ${record.time}.`;
 }
 
 /**
@@ -58,11 +58,11 @@ function tick({ names }, { record }, m) {
 export function narrate(trace, step) {
   const { record, before } = step;
   const { names, table } = trace;
-  if (!before) return `At 0 the input is ${quoted(names.inputs, record.value ?? 0)} and the state ${quoted(names.states, table.start)}.`;
+  if (!before) return say`At 0 the input is ${quoted(names.inputs, record.value ?? 0)} and the state ${quoted(names.states, table.start)}.`;
   if (record.kind === 'change') return change(trace, step, before);
   if (record.kind === 'test') return test(trace, step, before);
   if (record.kind === 'tick') return tick(trace, step, before);
-  const since = before.change === 0 ? 'from the beginning on' : `since ${before.change}`;
-  if (record.kind === 'poll') return `The controller sees ${quoted(names.inputs, before.present)}, which stands ${since}.`;
-  return `The journal ends in state ${quoted(names.states, before.state)}.`;
+  const since = before.change === 0 ? 'from the beginning on' : say`since ${before.change}`;
+  if (record.kind === 'poll') return say`The controller sees ${quoted(names.inputs, before.present)}, which stands ${since}.`;
+  return say`The journal ends in state ${quoted(names.states, before.state)}.`;
 }

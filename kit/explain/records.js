@@ -1,7 +1,7 @@
 /** Why a journal of any form, or a stimulus, is refused, in sentences. The number and the place are the library's. */
 
 import { FORMS, kindOf, numberAt, valueLength } from '../fields.js';
-import { counted, listed, numbered, quoted, thousands } from '../names.js';
+import { counted, listed, numbered, quoted, say } from '../names.js';
 import { FORM_WORDS } from '../notation/records.js';
 import { has } from '../sets.js';
 import { slipOfTest, slipOfTick } from './slips.js';
@@ -26,8 +26,8 @@ const NEXT = ['the poll', 'the test', 'the tick', 'the tick'];
  * @param {JournalRecord} record
  */
 function called(record) {
-  if (record.kind === 'bytes') return `the field at byte ${record.place}`;
-  return record.kind === 'input' ? 'the opening' : `the ${record.kind} at ${record.time}`;
+  if (record.kind === 'bytes') return say`the field at byte ${record.place}`;
+  return record.kind === 'input' ? 'the opening' : say`the ${record.kind} at ${record.time}`;
 }
 
 /**
@@ -52,8 +52,8 @@ function explainTooLong({ trace }) {
   const { max } = FORMS[trace.form];
   const { length } = trace.journal;
   // A file that is read up to one byte more than the limit may have been longer.
-  const has = length > max + 1 ? thousands(length) : `more than ${thousands(max)}`;
-  return { sentences: [`The ${formWord(trace)} has ${has} bytes; at most ${thousands(max)} are read.`] };
+  const has = length > max + 1 ? say`${length}` : say`more than ${max}`;
+  return { sentences: [say`The ${formWord(trace)} has ${has} bytes; at most ${max} are read.`] };
 }
 
 /**
@@ -65,13 +65,13 @@ function explainTorn({ trace, record }) {
   const left = trace.journal.length - record.place;
   const is = left === 1 ? 'is' : 'are';
   const torn = left > 0
-    ? `The ${word} stops in the middle of a field: of the one that starts at byte ${record.place}, ${counted(left, 'byte')} ${is} there.`
-    : trace.journal.length === 0 ? `The ${word} is empty.` : `The ${word} stops after byte ${record.place - 1} without an end field.`;
+    ? say`The ${word} stops in the middle of a field: of the one that starts at byte ${record.place}, ${counted(left, 'byte')} ${is} there.`
+    : trace.journal.length === 0 ? say`The ${word} is empty.` : say`The ${word} stops after byte ${record.place - 1} without an end field.`;
   const ticks = accepted(trace).filter((step) => step.record.kind === 'tick');
   const last = ticks[ticks.length - 1];
   if (accepted(trace).length === 0) return { sentences: [torn] };
   const sound = last
-    ? `All before it is sound; the last whole cycle ended with the tick at ${last.record.time}.`
+    ? say`All before it is sound; the last whole cycle ended with the tick at ${last.record.time}.`
     : 'All before it is sound, but there is no whole cycle in it.';
   return { sentences: [torn, sound] };
 }
@@ -86,7 +86,7 @@ function otherForm(form, tag, length) {
     const kind = kindOf(each, tag);
     return kind !== null && kind !== 'input' && valueLength(each, kind) === length;
   }) ?? others.find((each) => kindOf(each, tag) === 'input' && kindOf(form, tag) === null);
-  return other ? [`It looks like one of a ${FORM_WORDS[other]}: was that given in place of the ${FORM_WORDS[form]}?`] : [];
+  return other ? [say`It looks like one of a ${FORM_WORDS[other]}: was that given in place of the ${FORM_WORDS[form]}?`] : [];
 }
 
 /**
@@ -99,11 +99,11 @@ function explainUnknown({ trace, record }) {
   const length = numberAt(journal, record.place + 1, 2);
   const kind = kindOf(form, tag);
   const hex = tag.toString(16).padStart(2, '0');
-  const what = kind === 'input' ? 'the opening' : kind === 'end' ? 'the end' : `a ${kind}`;
+  const what = kind === 'input' ? 'the opening' : kind === 'end' ? 'the end' : say`a ${kind ?? ''}`;
   const says = kind
-    ? `The field at byte ${record.place} is ${what}, by its tag ${hex}, but has length ${length}; `
-      + `here its length is ${valueLength(form, kind)}.`
-    : `The field at byte ${record.place} has tag ${hex}, which no field of a ${formWord(trace)} has.`;
+    ? say`The field at byte ${record.place} is ${what}, by its tag ${hex}, but has length ${length}; `
+      + say`here its length is ${valueLength(form, kind)}.`
+    : say`The field at byte ${record.place} has tag ${hex}, which no field of a ${formWord(trace)} has.`;
   return { sentences: [says, ...otherForm(form, tag, length)] };
 }
 
@@ -113,13 +113,13 @@ function explainUnknown({ trace, record }) {
  */
 function explainOutOfPlace({ trace, step, record }) {
   const word = formWord(trace);
-  if (step.number === 0) return { sentences: [`A ${word} opens with the input at time 0; this one begins with ${called(record)}.`] };
+  if (step.number === 0) return { sentences: [say`A ${word} opens with the input at time 0; this one begins with ${called(record)}.`] };
   if (trace.steps[step.number - 1].record.kind === 'end') {
     const more = trace.journal.length - record.place;
-    const follow = `${counted(more, 'byte')} ${more === 1 ? 'follows' : 'follow'}`;
-    return { sentences: [`The ${word} ends before byte ${record.place}, but ${follow}.`] };
+    const follow = say`${counted(more, 'byte')} ${more === 1 ? 'follows' : 'follow'}`;
+    return { sentences: [say`The ${word} ends before byte ${record.place}, but ${follow}.`] };
   }
-  return { sentences: [`A second opening stands at byte ${record.place}.`,
+  return { sentences: [say`A second opening stands at byte ${record.place}.`,
     'The input at time 0 is given once, at the beginning; later inputs are changes.'] };
 }
 
@@ -129,11 +129,13 @@ function explainOutOfPlace({ trace, step, record }) {
  */
 function explainRange({ trace, record }) {
   const { states, inputs } = trace.table.counts;
-  const { kind, value } = record;
-  if (record.time > LATEST) return { sentences: [`${capital(called(record))} is too late: times go up to ${thousands(LATEST)}.`] };
-  const says = kind === 'test' ? `has the verdict ${value}; a verdict is 0, held, or 1, free`
-    : kind === 'tick' ? `names state ${value}, but ${numbered(states, 'state')}` : `names input ${value}, but ${numbered(inputs, 'input')}`;
-  return { sentences: [`${capital(called(record))} ${says}.`] };
+  const { kind } = record;
+  const value = record.value ?? 0;
+  if (record.time > LATEST) return { sentences: [say`${capital(called(record))} is too late: times go up to ${LATEST}.`] };
+  const says = kind === 'test' ? say`has the verdict ${value}; a verdict is 0, held, or 1, free`
+    : kind === 'tick' ? say`names state ${value}, but ${numbered(states, 'state')}`
+      : say`names input ${value}, but ${numbered(inputs, 'input')}`;
+  return { sentences: [say`${capital(called(record))} ${says}.`] };
 }
 
 /**
@@ -142,7 +144,7 @@ function explainRange({ trace, record }) {
  */
 function explainEarlier({ trace, step, record }) {
   const before = trace.steps[step.number - 1].record;
-  return { sentences: [`${capital(called(record))} stands after ${called(before)}, which is later.`,
+  return { sentences: [say`${capital(called(record))} stands after ${called(before)}, which is later.`,
     'Times never fall from one record to the next.'] };
 }
 
@@ -153,9 +155,9 @@ function explainEarlier({ trace, step, record }) {
 function explainLate({ trace, record, machine }) {
   const { cycle } = trace.table;
   const latest = machine.cycleStart + cycle;
-  const sentences = [`${capital(called(record))} is too late: the cycle began at ${machine.cycleStart} and lasts at most ${cycle}, `
-    + `so no record of it, be it a change or the end, is later than ${latest}.`];
-  if (record.kind !== 'tick') sentences.push(`A tick at ${latest} or before would have begun a new cycle.`);
+  const sentences = [say`${capital(called(record))} is too late: the cycle began at ${machine.cycleStart} and lasts at most ${cycle}, `
+    + say`so no record of it, be it a change or the end, is later than ${latest}.`];
+  if (record.kind !== 'tick') sentences.push(say`A tick at ${latest} or before would have begun a new cycle.`);
   return { sentences };
 }
 
@@ -164,8 +166,8 @@ function explainLate({ trace, record, machine }) {
  * @returns {Said}
  */
 function explainTurn({ record, machine }) {
-  return { sentences: [`${capital(called(record))} comes out of turn: the controller ${WAITS[machine.phase]}.`,
-    `A cycle is poll, test, tick, once each and in this order; next comes ${NEXT[machine.phase]}.`] };
+  return { sentences: [say`${capital(called(record))} comes out of turn: the controller ${WAITS[machine.phase]}.`,
+    say`A cycle is poll, test, tick, once each and in this order; next comes ${NEXT[machine.phase]}.`] };
 }
 
 /**
@@ -176,13 +178,13 @@ function explainPollTime({ trace, record, machine }) {
   const { change, cycleStart, present } = machine;
   const first = Math.max(change, cycleStart) + 1;
   const latest = cycleStart + trace.table.cycle;
-  const room = first <= latest ? `The first poll that can come is at ${first}.`
-    : `In this cycle, which lasts until ${latest} at most, no poll can come any more.`;
+  const room = first <= latest ? say`The first poll that can come is at ${first}.`
+    : say`In this cycle, which lasts until ${latest} at most, no poll can come any more.`;
   if (record.time <= change && change >= cycleStart && change > 0) {
-    return { sentences: [`The poll at ${record.time} is not later than the last change of the input, which was at ${change}.`,
-      `Input ${quoted(trace.names.inputs, present)} stands from ${change} on, and a poll sees only what stood before it. ${room}`] };
+    return { sentences: [say`The poll at ${record.time} is not later than the last change of the input, which was at ${change}.`,
+      say`Input ${quoted(trace.names.inputs, present)} stands from ${change} on, and a poll sees only what stood before it. ${room}`] };
   }
-  return { sentences: [`The poll at ${record.time} is not later than the start of its cycle, ${cycleStart}. ${room}`] };
+  return { sentences: [say`The poll at ${record.time} is not later than the start of its cycle, ${cycleStart}. ${room}`] };
 }
 
 /**
@@ -191,11 +193,11 @@ function explainPollTime({ trace, record, machine }) {
  */
 function explainPolled({ trace, record, machine }) {
   const { inputs } = trace.names;
-  const said = quoted(inputs, record.value ?? 0);
-  const since = machine.change === 0 ? 'from the beginning on' : `since ${machine.change}`;
-  const sentences = [`The poll at ${record.time} says that it saw ${said}, but ${since} the input is ${quoted(inputs, machine.present)}.`];
+  const [said, present] = [quoted(inputs, record.value ?? 0), quoted(inputs, machine.present)];
+  const since = machine.change === 0 ? 'from the beginning on' : say`since ${machine.change}`;
+  const sentences = [say`The poll at ${record.time} says that it saw ${said}, but ${since} the input is ${present}.`];
   const stood = accepted(trace).some((step) => step.before?.present === record.value);
-  if (stood) sentences.push(`Input ${said} was over at ${machine.change}: what stands at no poll is never seen.`);
+  if (stood) sentences.push(say`Input ${said} was over at ${machine.change}: what stands at no poll is never seen.`);
   return { sentences };
 }
 
@@ -207,12 +209,12 @@ function explainTicked({ trace, step, record, machine }) {
   const { states, inputs } = trace.names;
   const [said, here, polled] = [quoted(states, record.value ?? 0), quoted(states, machine.state), quoted(inputs, machine.polled)];
   const slip = slipOfTick(trace, step);
-  const says = `The tick at ${record.time} says state ${said}`;
-  if (machine.phase === 2) return { sentences: [`${says}, but the test before it was held, so state ${here} stays.`], slip };
-  const sentences = [`${says}, but from ${here} the polled input ${polled} leads to ${quoted(states, ownValue(trace, step) ?? 0)}.`];
+  const says = say`The tick at ${record.time} says state ${said}`;
+  if (machine.phase === 2) return { sentences: [say`${says}, but the test before it was held, so state ${here} stays.`], slip };
+  const sentences = [say`${says}, but from ${here} the polled input ${polled} leads to ${quoted(states, ownValue(trace, step) ?? 0)}.`];
   if (machine.present !== machine.polled && trace.table.next[machine.state][machine.present] === record.value) {
-    sentences.push(`${said} is where ${quoted(inputs, machine.present)} leads, the input at the sensor; but it came at ${machine.change}, `
-      + `and the poll was at ${machine.polledAt}. What counts is what was polled.`);
+    sentences.push(say`${said} is where ${quoted(inputs, machine.present)} leads, the input at the sensor; but it came at `
+      + say`${machine.change}, and the poll was at ${machine.polledAt}. What counts is what was polled.`);
   }
   return { sentences, slip };
 }
@@ -222,7 +224,7 @@ function explainTicked({ trace, step, record, machine }) {
  * @param {Machine} machine
  */
 function entered({ entry }) {
-  return entry === 0 ? 'was there from the beginning, 0,' : `was entered at ${entry}`;
+  return entry === 0 ? 'was there from the beginning, 0,' : say`was entered at ${entry}`;
 }
 
 /**
@@ -232,12 +234,12 @@ function entered({ entry }) {
 function why(trace, machine, time, clock) {
   const { states, inputs, timers } = trace.names;
   const [state, polled] = [quoted(states, machine.state), quoted(inputs, machine.polled)];
-  const sum = `${time} - ${clock.from} = ${time - clock.from} is not more than ${clock.length}`;
+  const sum = say`${time} - ${clock.from} = ${time - clock.from} is not more than ${clock.length}`;
   if (clock.timer === null) {
-    return `state ${state} ${entered(machine)} and delays ${polled} until its hold of ${clock.length} is passed: ${sum}`;
+    return say`state ${state} ${entered(machine)} and delays ${polled} until its hold of ${clock.length} is passed: ${sum}`;
   }
-  return `timer ${quoted(timers, clock.timer)} runs since ${clock.from}, when its region was entered, and delays ${polled} in ${state} `
-    + `until its length of ${clock.length} is passed: ${sum}`;
+  return say`timer ${quoted(timers, clock.timer)} runs since ${clock.from}, when its region was entered, and delays ${polled} in ${state} `
+    + say`until its length of ${clock.length} is passed: ${sum}`;
 }
 
 /**
@@ -247,13 +249,13 @@ function why(trace, machine, time, clock) {
  */
 function explainFree({ trace, record, machine }) {
   const held = holding(trace.table, machine, record.time).map((clock) => why(trace, machine, record.time, clock));
-  const sentences = [`The test at ${record.time} says free, but ${listed(held)}.`,
-    `The first test that can be free is at ${freeFrom(trace.table, machine, record.time)}.`];
+  const sentences = [say`The test at ${record.time} says free, but ${listed(held)}.`,
+    say`The first test that can be free is at ${freeFrom(trace.table, machine, record.time)}.`];
   const slip = slipOfTest(trace);
   const delayedNow = clocks(trace.table, machine).some((clock) => has(clock.delays, machine.present));
   if (!slip && machine.present !== machine.polled && !delayedNow) {
     const present = quoted(trace.names.inputs, machine.present);
-    sentences.push(`The input at the sensor, ${present}, is not delayed; but what counts is what was polled.`);
+    sentences.push(say`The input at the sensor, ${present}, is not delayed; but what counts is what was polled.`);
   }
   return { sentences, slip };
 }
@@ -269,18 +271,18 @@ function explainHeld({ trace, record, machine }) {
   const here = clocks(trace.table, machine);
   const delaying = here.filter((clock) => has(clock.delays, machine.polled));
   const what = trace.table.kind === 'holds' ? 'hold' : 'timer';
-  const says = `The test at ${record.time} says held`;
-  if (here.length === 0) return { sentences: [`${says}, but state ${state} has no ${what}, so every test in it is free.`] };
+  const says = say`The test at ${record.time} says held`;
+  if (here.length === 0) return { sentences: [say`${says}, but state ${state} has no ${what}, so every test in it is free.`] };
   if (delaying.length === 0) {
-    return { sentences: [`${says}, but input ${polled} is not delayed in state ${state}, so the test is free at once.`,
-      `A ${what} does not hold every input back, only those that it delays.`] };
+    return { sentences: [say`${says}, but input ${polled} is not delayed in state ${state}, so the test is free at once.`,
+      say`A ${what} does not hold every input back, only those that it delays.`] };
   }
   const passed = delaying.map((clock) => {
-    const sum = `${record.time} - ${clock.from} = ${record.time - clock.from} is more than ${clock.length}`;
-    return clock.timer === null ? `the hold of ${state} is passed: it ${entered(machine)}, and ${sum}`
-      : `timer ${quoted(timers, clock.timer)} is passed: it runs since ${clock.from}, and ${sum}`;
+    const sum = say`${record.time} - ${clock.from} = ${record.time - clock.from} is more than ${clock.length}`;
+    return clock.timer === null ? say`the hold of ${state} is passed: it ${entered(machine)}, and ${sum}`
+      : say`timer ${quoted(timers, clock.timer)} is passed: it runs since ${clock.from}, and ${sum}`;
   });
-  return { sentences: [`${says}, but ${listed(passed)}.`], slip: slipOfTest(trace) };
+  return { sentences: [say`${says}, but ${listed(passed)}.`], slip: slipOfTest(trace) };
 }
 
 /**
@@ -325,7 +327,7 @@ export function explainTrace(trace) {
   const { sentences, slip } = sentence({ trace, step, record: step.record, machine });
   return {
     sentences,
-    slip: slip ? `The usual slip: ${slip.says}` : null,
+    slip: slip ? say`The usual slip: ${slip.says}` : null,
     slipName: slip ? slip.name : null,
     wanted: ownValue(trace, step),
     blame: blame(trace, step.record),

@@ -5,7 +5,7 @@
 
 import { clocks } from '../trace.js';
 import { has } from '../sets.js';
-import { quoted } from '../names.js';
+import { quoted, say } from '../names.js';
 
 /** @typedef {import('../types.js').Trace} Trace */
 /** @typedef {import('../types.js').Step} Step */
@@ -56,47 +56,47 @@ const SLIPS = [
   {
     name: 'hold-reached',
     rule: (clock, { time }) => time - clock.from < clock.length,
-    says: (clock) => `a ${called(clock)} does not end when it is reached, it ends when it is passed.`,
+    says: (clock) => say`a ${called(clock)} does not end when it is reached, it ends when it is passed.`,
   },
   {
     name: 'old-entry',
     rule: (clock, tested) => tested.time - instant(clock, tested, 'first') <= clock.length,
-    says: (clock, tested) => `the entry of an earlier visit, at ${instant(clock, tested, 'first')}, was let stand. `
-      + `The ${called(clock)} runs from the last entry, at ${clock.from}.`,
+    says: (clock, tested) => say`the entry of an earlier visit, at ${instant(clock, tested, 'first')}, was let stand. `
+      + say`The ${called(clock)} runs from the last entry, at ${clock.from}.`,
   },
   {
     name: 'hold-restarted',
     rule: (clock, { time, ledBack }) => time - Math.max(clock.from, ledBack) <= clock.length,
-    says: (clock, { machine, ledBack }, { names }) => `the tick at ${ledBack} led back to ${quoted(names.states, machine.state)}, and the `
-      + `${called(clock)} was started again there. Only a move starts it: it runs from ${clock.from}.`,
+    says: (clock, { machine, ledBack }, { names }) => say`the tick at ${ledBack} led back to ${quoted(names.states, machine.state)}, and `
+      + say`the ${called(clock)} was started again there. Only a move starts it: it runs from ${clock.from}.`,
   },
   {
     name: 'hold-restarted',
     rule: (clock, { time, machine }) => time - Math.max(clock.from, machine.entry) <= clock.length,
-    says: (clock, { machine }) => `the timer was started again by the move at ${machine.entry}. It runs on through moves inside its `
-      + `region, and runs since ${clock.from}.`,
+    says: (clock, { machine }) => say`the timer was started again by the move at ${machine.entry}. It runs on through moves inside its `
+      + say`region, and runs since ${clock.from}.`,
   },
   {
     name: 'wrong-instant',
     rule: (clock, { machine }) => machine.polledAt - clock.from <= clock.length,
-    says: (clock, { machine }) => `the ${called(clock)} was measured at the poll, at ${machine.polledAt}. It is measured at the test.`,
+    says: (clock, { machine }) => say`the ${called(clock)} was measured at the poll, at ${machine.polledAt}. It is measured at the test.`,
   },
   {
     name: 'wrong-instant',
     rule: (clock, { nextTick, time }) => (nextTick ?? time) - clock.from <= clock.length,
-    says: (clock, { nextTick }) => `the ${called(clock)} was measured at the tick, at ${nextTick}. It is measured at the test.`,
+    says: (clock, { nextTick }) => say`the ${called(clock)} was measured at the tick, at ${nextTick ?? 0}. It is measured at the test.`,
   },
   {
     name: 'move-at-test',
     rule: (clock, tested) => tested.time - instant(clock, tested, 'byTest') <= clock.length,
-    says: (clock, tested, { names }) => `the state was changed at the test, at ${instant(clock, tested, 'byTest')}. The new state is `
-      + `there from the tick on: ${quoted(names.states, tested.machine.state)} was entered at ${tested.machine.entry}.`,
+    says: (clock, tested, { names }) => say`the state was changed at the test, at ${instant(clock, tested, 'byTest')}. The new state is `
+      + say`there from the tick on: ${quoted(names.states, tested.machine.state)} was entered at ${tested.machine.entry}.`,
   },
   {
     name: 'hold-restarted',
     rule: (clock, { time, machine }) => time - Math.max(clock.from, machine.cycleStart) <= clock.length,
-    says: (clock, { machine }) => `the ${called(clock)} was started again at the tick at ${machine.cycleStart}, although the state `
-      + `stayed. It runs from ${clock.from}.`,
+    says: (clock, { machine }) => say`the ${called(clock)} was started again at the tick at ${machine.cycleStart}, although the state `
+      + say`stayed. It runs from ${clock.from}.`,
   },
 ];
 
@@ -197,7 +197,7 @@ export function slipOfTick(trace, { record, before }) {
   const led = next[before.state][before.polled];
   const passed = clocks(trace.table, before).every(({ from, length }) => record.time - from > length);
   if (before.phase === 2 && record.value === led && passed) {
-    return { name: 'wrong-instant', says: `the hold was measured once more at the tick, at ${record.time}. What counts is the test.` };
+    return { name: 'wrong-instant', says: say`the hold was measured once more at the tick, at ${record.time}. What counts is the test.` };
   }
   if (before.phase === 3 && record.value === next[led][before.polled]) {
     const says = 'the state was changed at the test already, and then once more at the tick. It changes at the tick only.';

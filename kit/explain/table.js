@@ -1,7 +1,7 @@
 /** Why a table is refused, in sentences. */
 
 import { fieldAt, numberAt, tablePlaces } from '../fields.js';
-import { counted, fittingNames, numbered, quoted, thousands } from '../names.js';
+import { counted, fittingNames, numbered, quoted, say, thousands } from '../names.js';
 import { members } from '../sets.js';
 
 /** @typedef {import('../types.js').Names} Names */
@@ -32,7 +32,7 @@ const LONGEST_HOLD = 3600000;
  * @param {number} tag
  */
 function fieldName(tag) {
-  return `field ${tag.toString(16).padStart(2, '0')}, ${FIELDS[tag - 1]}`;
+  return say`field ${tag.toString(16).padStart(2, '0')}, ${FIELDS[tag - 1]}`;
 }
 
 /**
@@ -73,11 +73,11 @@ function explainRunOut(c) {
   const left = c.bytes.length - c.place;
   const wanted = wantedFields(c).map(({ tag }) => fieldName(tag)).join(', or ');
   if (left === 0) {
-    return { sentences: [`The table ends after ${counted(c.place, 'byte')}, where it should go on with ${wanted}.`], length: 0 };
+    return { sentences: [say`The table ends after ${counted(c.place, 'byte')}, where it should go on with ${wanted}.`], length: 0 };
   }
-  const there = `${counted(left, 'byte')} of it ${left === 1 ? 'is' : 'are'} there`;
-  const claimed = left >= 3 ? `; it claims to have ${counted(3 + numberAt(c.bytes, c.place + 1, 2), 'byte')}` : '';
-  return { sentences: [`The table ends in the middle of the field at byte ${c.place}: ${there}${claimed}.`], length: left };
+  const there = say`${counted(left, 'byte')} of it ${left === 1 ? 'is' : 'are'} there`;
+  const claimed = left >= 3 ? say`; it claims to have ${counted(3 + numberAt(c.bytes, c.place + 1, 2), 'byte')}` : '';
+  return { sentences: [say`The table ends in the middle of the field at byte ${c.place}: ${there}${claimed}.`], length: left };
 }
 
 /**
@@ -91,9 +91,9 @@ function explainWrongField(c) {
   const right = wanted.find((field) => field.tag === tag);
   const lengths = (/** @type {number[]} */ all) => all.map(thousands).join(' or ');
   const says = right
-    ? `At byte ${c.place} ${fieldName(tag)}, has length ${length}; here its length is ${lengths(right.lengths)}.`
-    : `At byte ${c.place} should stand ${wanted.map((field) => fieldName(field.tag)).join(', or ')}; there stands a field with tag `
-      + `${tag.toString(16).padStart(2, '0')}.`;
+    ? say`At byte ${c.place} ${fieldName(tag)}, has length ${length}; here its length is ${lengths(right.lengths)}.`
+    : say`At byte ${c.place} should stand ${wanted.map((field) => fieldName(field.tag)).join(', or ')}; there stands a field with tag `
+      + say`${tag.toString(16).padStart(2, '0')}.`;
   const hint = c.place > 0 ? [] : otherKind(tag);
   return { sentences: [says, ...hint], length: 3 };
 }
@@ -104,7 +104,7 @@ function explainWrongField(c) {
  */
 function otherKind(tag) {
   const kind = new Map([[1, 'journal'], [2, 'stimulus'], [3, 'short journal']]).get(tag >> 4);
-  return kind ? [`Bytes that begin so look like a ${kind}: was it given in place of the table?`] : [];
+  return kind ? [say`Bytes that begin so look like a ${kind}: was it given in place of the table?`] : [];
 }
 
 /**
@@ -116,8 +116,8 @@ function explainCounts(c) {
   const k = values.slice(0, 3).findIndex((value) => value < 1 || value > 32);
   const word = ['state', 'input', 'output'][k];
   const says = k >= 0
-    ? `The table has ${counted(values[k], word)}; there may be 1 to 32.`
-    : `The initial state is number ${values[3]}, but ${numbered(values[0], 'state')}.`;
+    ? say`The table has ${counted(values[k], word)}; there may be 1 to 32.`
+    : say`The initial state is number ${values[3]}, but ${numbered(values[0], 'state')}.`;
   return { sentences: [says], place: 3 + (k >= 0 ? k : 3), length: 1 };
 }
 
@@ -127,7 +127,7 @@ function explainCounts(c) {
  */
 function explainBound(c) {
   const bound = numberAt(c.bytes, c.place + 3, 4);
-  return { sentences: [`The cycle bound is ${thousands(bound)}; it may be 1 to 60,000.`], place: c.place + 3, length: 4 };
+  return { sentences: [say`The cycle bound is ${bound}; it may be 1 to 60,000.`], place: c.place + 3, length: 4 };
 }
 
 /**
@@ -140,11 +140,11 @@ function explainEntry(c) {
   const value = c.bytes[place];
   if (place < places.next(0, 0)) {
     const state = quoted(names.states, place - places.output(0));
-    return { sentences: [`State ${state} has output number ${value}, but ${numbered(counts.outputs, 'output')}.`], length: 1 };
+    return { sentences: [say`State ${state} has output number ${value}, but ${numbered(counts.outputs, 'output')}.`], length: 1 };
   }
   const k = place - places.next(0, 0);
   const [state, input] = [quoted(names.states, Math.floor(k / counts.inputs)), quoted(names.inputs, k % counts.inputs)];
-  const says = `From state ${state} input ${input} leads to state number ${value}, but ${numbered(counts.states, 'state')}.`;
+  const says = say`From state ${state} input ${input} leads to state number ${value}, but ${numbered(counts.states, 'state')}.`;
   return { sentences: [says], length: 1 };
 }
 
@@ -154,8 +154,8 @@ function explainEntry(c) {
  */
 function explainHold(c) {
   const state = quoted(c.names.states, (c.place - tablePlaces(c.counts, 0).hold(0)) / 4);
-  const hold = thousands(numberAt(c.bytes, c.place, 4));
-  return { sentences: [`State ${state} has a hold of ${hold}; the longest is ${thousands(LONGEST_HOLD)}.`], length: 4 };
+  const hold = numberAt(c.bytes, c.place, 4);
+  return { sentences: [say`State ${state} has a hold of ${hold}; the longest is ${LONGEST_HOLD}.`], length: 4 };
 }
 
 /**
@@ -164,7 +164,7 @@ function explainHold(c) {
  */
 function beyond(set, count, what) {
   const [first] = members(set).filter((member) => member >= count);
-  return `${what} number ${first}, but ${numbered(count, what)}`;
+  return say`${what} number ${first}, but ${numbered(count, what)}`;
 }
 
 /**
@@ -174,7 +174,7 @@ function beyond(set, count, what) {
 function explainDelayed(c) {
   const state = (c.place - tablePlaces(c.counts, 0).delayed(0)) / 4;
   const set = numberAt(c.bytes, c.place, 4);
-  return { sentences: [`State ${quoted(c.names.states, state)} delays ${beyond(set, c.counts.inputs, 'input')}.`], length: 4 };
+  return { sentences: [say`State ${quoted(c.names.states, state)} delays ${beyond(set, c.counts.inputs, 'input')}.`], length: 4 };
 }
 
 /**
@@ -185,7 +185,7 @@ function explainIdleSet(c) {
   const state = quoted(c.names.states, (c.place - tablePlaces(c.counts, 0).delayed(0)) / 4);
   const inputs = members(numberAt(c.bytes, c.place, 4)).map((input) => quoted(c.names.inputs, input)).join(', ');
   return {
-    sentences: [`State ${state} delays ${inputs}, but has no hold, so nothing would ever be delayed in it.`,
+    sentences: [say`State ${state} delays ${inputs}, but has no hold, so nothing would ever be delayed in it.`,
       'Give the state a hold, or delay nothing in it. A table from before this rule can be converted: that empties such sets.'],
     length: 4,
   };
@@ -201,11 +201,11 @@ function explainMember(c) {
   const set = numberAt(c.bytes, place, 4);
   if (place < places.delays(0, 0)) {
     const timer = quoted(names.timers, (place - places.region(0)) / 8);
-    return { sentences: [`Timer ${timer} runs over ${beyond(set, counts.states, 'state')}.`], length: 4 };
+    return { sentences: [say`Timer ${timer} runs over ${beyond(set, counts.states, 'state')}.`], length: 4 };
   }
   const k = (place - places.delays(0, 0)) / 4;
   const [timer, state] = [quoted(names.timers, k % timers), quoted(names.states, Math.floor(k / timers))];
-  return { sentences: [`In state ${state} timer ${timer} delays ${beyond(set, counts.inputs, 'input')}.`], length: 4 };
+  return { sentences: [say`In state ${state} timer ${timer} delays ${beyond(set, counts.inputs, 'input')}.`], length: 4 };
 }
 
 /**
@@ -215,7 +215,7 @@ function explainMember(c) {
 function explainLength(c) {
   const timer = quoted(c.names.timers, (c.place - tablePlaces(c.counts, c.timers).length(0)) / 8);
   const length = numberAt(c.bytes, c.place, 4);
-  return { sentences: [`Timer ${timer} has length ${thousands(length)}; it may be 1 to ${thousands(LONGEST_HOLD)}.`], length: 4 };
+  return { sentences: [say`Timer ${timer} has length ${length}; it may be 1 to ${LONGEST_HOLD}.`], length: 4 };
 }
 
 /**
@@ -225,7 +225,7 @@ function explainLength(c) {
 function explainRest(c) {
   const more = c.bytes.length - c.place;
   const follow = more === 1 ? 'follows' : 'follow';
-  return { sentences: [`The table is complete after ${counted(c.place, 'byte')}, but ${thousands(more)} more ${follow}.`], length: more };
+  return { sentences: [say`The table is complete after ${counted(c.place, 'byte')}, but ${more} more ${follow}.`], length: more };
 }
 
 /** @type {Map<number, (c: Case) => Said>} */
@@ -262,7 +262,7 @@ export function explainTable(bytes, { number, place }, names) {
   const sentence = SENTENCES.get(number);
   const said = sentence
     ? sentence({ bytes, number, place, counts, timers, names: fittingNames(names, counts, timers) })
-    : { sentences: [`The table is refused: ${number} at ${place}.`], length: 1 };
+    : { sentences: [say`The table is refused: ${number} at ${place}.`], length: 1 };
   const blame = { place: said.place ?? place, length: said.length };
   return { sentences: said.sentences, slip: null, slipName: null, wanted: null, blame };
 }
