@@ -40,7 +40,7 @@ export function stretchOf(trace, asked, room) {
   const refusedAt = trace.stop === null ? null : timeOfRefused(trace.steps[trace.stop], seen);
   const from = Math.max(0, Math.floor(asked.from ?? piece.from));
   const pace = paceOf(taken, trace.table.cycle);
-  const reach = Math.max((seen - from) / 3, pace);
+  const reach = Math.max((seen - from) / 2, pace);
   const far = refusedAt !== null && refusedAt > seen + Math.max((seen - from) / 2, 2 * pace);
   const last = piece.last ? lastShown(trace, { from, seen, refusedAt, far, reach, pace }, room.words) : piece.to;
   const to = Math.max(from + 1, Math.ceil(asked.to ?? last));
@@ -78,7 +78,7 @@ function lastShown(trace, { from, seen, refusedAt, far, reach, pace }, words) {
   const base = far ? seen + Math.min(pace / 2, reach) : Math.max(seen, refusedAt);
   const unread = far ? [] : trace.steps.slice((trace.stop ?? 0) + 1).map((step) => step.record.time);
   const limits = machine === null ? [] : [machine.cycleStart + trace.table.cycle, ...endsOf(trace, machine)];
-  const near = [...unread.filter((time) => time <= base + reach), ...limits.filter((time) => time <= base + 2 * reach)];
+  const near = [...unread.filter((time) => time <= base + reach), ...limits.filter((time) => time <= base + 1.5 * reach)];
   const free = far || refusedAt < seen ? base : (base - words * from) / (1 - words);
   return near.reduce((a, b) => Math.max(a, b), free);
 }

@@ -16,10 +16,12 @@ const KINDS = new Set(['svg', 'title', 'desc', 'g', 'rect', 'line', 'circle', 'p
 /** A controller as they are drawn in class: it goes on, stays or begins anew. */
 function drawController(chance, states) {
   const inputs = chance.between(2, 3);
-  const next = Array.from({ length: states }, (_, q) => Array.from({ length: inputs }, () => chance.pick([q, (q + 1) % states, (q + 2) % states, 0])));
+  const row = (q) => Array.from({ length: inputs }, () => chance.pick([q, (q + 1) % states, (q + 2) % states, 0]));
+  const next = Array.from({ length: states }, (_, q) => row(q));
   const named = (letter, count) => Array.from({ length: count }, (_, k) => `${letter}${k}`);
   return {
-    ...TABLES[0], counts: { states, inputs, outputs: 2 }, next, outputs: next.map((_, q) => q % 2), holds: next.map((_, q) => q % 3), delayed: next.map((_, q) => (q % 3 ? 1 : 0)),
+    ...TABLES[0], counts: { states, inputs, outputs: 2 }, next, outputs: next.map((_, q) => q % 2),
+    holds: next.map((_, q) => q % 3), delayed: next.map((_, q) => (q % 3 ? 1 : 0)),
     names: { states: named('state_', states), inputs: named('input_', inputs), outputs: ['off', 'on'], timers: [] },
   };
 }
@@ -47,13 +49,14 @@ test('each state and each edge is there once, and each input is named', () => {
         assert.ok(edge.children[0].text.includes(table.names.inputs[input]));
       }
     }
-    for (const { names: { states: list } } of [table]) assert.ok(list.every((name) => all(root).some(({ text }) => text === name)));
+    assert.ok(table.names.states.every((name) => all(root).some(({ text }) => text === name)));
   }
 });
 
 test('what is lit is lit, and nothing else', () => {
   const gas = tableOf('gas-burner');
-  const lit = (options) => ofClass(look(gas, { lit: options }), 'lit').map(({ attributes }) => attributes['data-state'] ?? `${attributes['data-from']}-${attributes['data-to']}`);
+  const name = ({ attributes }) => attributes['data-state'] ?? `${attributes['data-from']}-${attributes['data-to']}`;
+  const lit = (options) => ofClass(look(gas, { lit: options }), 'lit').map(name);
   assert.deepEqual(lit({}), []);
   assert.deepEqual(lit({ state: 2 }), ['2']);
   assert.deepEqual(lit({ edge: { from: 1, input: 1 } }), ['1-2']);
@@ -87,7 +90,8 @@ test('states stand apart, and with up to 12 of them no edge goes through one', (
       const { places, radius, edges } = layoutOf(table, table.names, { width: 1200, loops: true });
       for (const [q, place] of places.entries()) {
         assert.ok(places.every((other, k) => k === q || distance(place, other) > 2 * radius + 40));
-        const through = edges.filter(({ edge, route }) => edge.from !== q && edge.to !== q && route.points.some((point) => distance(point, place) < radius));
+        const others = edges.filter(({ edge }) => edge.from !== q && edge.to !== q);
+        const through = others.filter(({ route }) => route.points.some((point) => distance(point, place) < radius));
         assert.deepEqual(through.map(({ edge }) => `${edge.from} to ${edge.to} through ${q}`), [], `${states} states, seed ${seed}`);
       }
     }

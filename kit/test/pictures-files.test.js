@@ -41,7 +41,8 @@ test('words are cut and wrapped to their room', () => {
 
 /** How bright a colour is, and how much two differ, as the guidelines for web content have it. */
 function brightness(colour) {
-  const parts = [1, 3, 5].map((k) => parseInt(colour.slice(k, k + 2), 16) / 255).map((c) => (c <= 0.03928 ? c / 12.92 : ((c + 0.055) / 1.055) ** 2.4));
+  const linear = (part) => (part <= 0.03928 ? part / 12.92 : ((part + 0.055) / 1.055) ** 2.4);
+  const parts = [1, 3, 5].map((k) => linear(parseInt(colour.slice(k, k + 2), 16) / 255));
   return 0.2126 * parts[0] + 0.7152 * parts[1] + 0.0722 * parts[2];
 }
 function contrast(one, other) {
@@ -52,8 +53,9 @@ function contrast(one, other) {
 test('words have a contrast of 4.5 at least, marks of 3', () => {
   for (const theme of [LIGHT, DARK]) {
     const many = (colours) => Array.from({ length: 32 }, (_, k) => inTurn(colours, k));
+    const lanes = [...many(theme.inputs), ...many(theme.states), ...many(theme.outputs)];
     const words = [
-      [theme.ink, [theme.paper, theme.redPaper, theme.heldFill, theme.litFill, ...many(theme.inputs), ...many(theme.states), ...many(theme.outputs)]],
+      [theme.ink, [theme.paper, theme.redPaper, theme.heldFill, theme.litFill, ...lanes]],
       [theme.quiet, [theme.paper, theme.redPaper, ...theme.phases]],
       [theme.poll, [theme.paper, ...theme.phases]],
       [theme.held, [theme.paper, theme.phases[0], theme.phases[1], theme.phases[2]]],
@@ -62,8 +64,12 @@ test('words have a contrast of 4.5 at least, marks of 3', () => {
       [theme.lit, [theme.paper]],
       ...theme.timers.map((timer) => [timer, [theme.paper]]),
     ];
-    for (const [fill, papers] of words) for (const paper of papers) assert.ok(contrast(fill, paper) >= 4.5, `${fill} on ${paper}: ${contrast(fill, paper)}`);
-    const marks = [[theme.border, theme.paper], [theme.unread, theme.paper], [theme.lit, theme.phases[0]], [theme.held, theme.freeFill], [theme.free, theme.freeFill]];
+    const pairs = words.flatMap(([fill, papers]) => papers.map((paper) => [fill, paper]));
+    for (const [fill, paper] of pairs) assert.ok(contrast(fill, paper) >= 4.5, `${fill} on ${paper}: ${contrast(fill, paper)}`);
+    const marks = [
+      [theme.border, theme.paper], [theme.unread, theme.paper], [theme.lit, theme.phases[0]],
+      [theme.held, theme.freeFill], [theme.free, theme.freeFill],
+    ];
     for (const [mark, paper] of marks) assert.ok(contrast(mark, paper) >= 3, `${mark} on ${paper}: ${contrast(mark, paper)}`);
   }
 });
@@ -106,11 +112,11 @@ function readVcd(text) {
 
 test("the classroom's dump has its states, verdicts and cycles", () => {
   const times = readVcd(vcd(traceOfSample('classroom')));
-  const at = (time) => times.find((moment) => moment.time === time).values;
-  assert.deepEqual(['input', 'state', 'output', 'phase', 'cycle', 'refused'].map((name) => at(0).get(name)), ['no_train', 'idle', 'N', 'before_poll', '0', '0']);
-  assert.deepEqual(['state', 'output', 'cycle', 'input'].map((name) => at(3).get(name)), ['busy', 'T', '1', 'no_train']);
-  assert.deepEqual(['verdict', 'left', 'polled', 'phase'].map((name) => at(5).get(name)), ['held', '100', 'no_train', 'held']);
-  assert.equal(at(11).get('state'), 'idle');
+  const at = (time, ...names) => names.map((name) => times.find((moment) => moment.time === time).values.get(name));
+  assert.deepEqual(at(0, 'input', 'state', 'output', 'phase', 'cycle', 'refused'), ['no_train', 'idle', 'N', 'before_poll', '0', '0']);
+  assert.deepEqual(at(3, 'state', 'output', 'cycle', 'input'), ['busy', 'T', '1', 'no_train']);
+  assert.deepEqual(at(5, 'verdict', 'left', 'polled', 'phase'), ['held', '100', 'no_train', 'held']);
+  assert.deepEqual(at(11, 'state'), ['idle']);
   assert.equal(times[times.length - 1].values.get('refused') ?? '0', '0');
   const refused = readVcd(vcd(traceOfSample('changed-verdict')));
   assert.equal(refused.find(({ time }) => time === 8).values.get('refused'), '1');
@@ -124,8 +130,9 @@ test('500 runs, sound and damaged, and hostile names: every dump is well-formed,
     const trace = traceOf(table, perhapsDamaged(chance, drawn.journal));
     const times = readVcd(vcd(trace, { unit: chance.pick(['1 s', '10 us', 'an hour', '$end']) }));
     const last = trace.steps.slice(0, trace.stop ?? undefined).pop();
-    if (last?.after) assert.equal(parseInt(times.find(({ time }) => time === last.record.time).values.get('state_number'), 2), last.after.state);
-    assert.equal([...times].pop().values.size === 0 || times.some(({ values }) => values.get('refused') === '1') === (trace.refused !== null), true);
+    const shown = times.find(({ time }) => time === last?.record.time)?.values.get('state_number');
+    if (last) assert.equal(parseInt(shown, 2), last.after.state);
+    assert.equal(times.some(({ values }) => values.get('refused') === '1'), trace.refused !== null);
   }
 });
 
@@ -133,20 +140,31 @@ test('the plot has a bar for each state and input that has slots, as long as the
   const gas = tableOf('gas-burner');
   const { states, inputs } = gas.counts;
   const numbers = new BigUint64Array(1 + 2 * states + states * inputs);
-  for (let seed = 1; seed < 4; seed++) assert.ok(library.reportAdd(encodeTable(gas), longJournal(gas, { cycles: 300, changes: 50, seed }), numbers).ok);
+  const journals = [1, 2, 3].map((seed) => longJournal(gas, { cycles: 300, changes: 50, seed }));
+  for (const journal of journals) assert.ok(library.reportAdd(encodeTable(gas), journal, numbers).ok);
   const report = reportOf(numbers, gas.counts);
   assert.equal(report.journals, 3n);
+  const bars = (group) => group.children.filter(({ name }) => name === 'rect').map(({ attributes }) => Number(attributes.width));
+  const sum = (numbersOfBars) => numbersOfBars.reduce((a, b) => a + b, 0);
   for (const width of [390, 900]) {
-    const root = readXml(dwellPlot(report, gas.names, { width }));
-    for (const [q, group] of ofClass(root, 'dwell').entries()) {
-      const bars = group.children.filter(({ name }) => name === 'rect').map(({ attributes }) => Number(attributes.width));
-      assert.equal(bars.length, report.pairs[q].filter((slots) => slots > 0n).length);
-      const first = ofClass(root, 'dwell')[0].children.filter(({ name }) => name === 'rect').reduce((sum, { attributes }) => sum + Number(attributes.width), 0);
-      const length = bars.reduce((a, b) => a + b, 0);
-      assert.ok(Math.abs(length / first - Number(report.dwell[q]) / Number(report.dwell[0])) < 0.01);
+    const rows = ofClass(readXml(dwellPlot(report, gas.names, { width })), 'dwell');
+    for (const [q, row] of rows.entries()) {
+      assert.equal(bars(row).length, report.pairs[q].filter((slots) => slots > 0n).length);
+      assert.ok(Math.abs(sum(bars(row)) / sum(bars(rows[0])) - Number(report.dwell[q]) / Number(report.dwell[0])) < 0.01);
     }
-    for (let shift = 0; shift < HOSTILE.length; shift++) readXml(dwellPlot(report, withHostileNames(gas, shift).names, { width, title: HOSTILE[shift] }));
+    for (const [shift, title] of HOSTILE.entries()) readXml(dwellPlot(report, withHostileNames(gas, shift).names, { width, title }));
   }
+});
+
+test("the classroom's run has the numbers of the rules", () => {
+  const { table, tableBytes, journal } = traceOfSample('classroom');
+  const numbers = new BigUint64Array(9);
+  assert.ok(library.reportAdd(tableBytes, journal, numbers).ok);
+  const report = reportOf(numbers, table.counts);
+  assert.deepEqual(report, { journals: 1n, dwell: [4n, 8n], pairs: [[2n, 2n], [8n, 0n]], entries: [2n, 1n] });
+  const said = all(readXml(dwellPlot(report, table.names))).map(({ text }) => text);
+  const wanted = ['Where the time went: 1 journal', 'idle', '4 slots, 2 entries', 'busy', '8 slots, 1 entry'];
+  assert.deepEqual(wanted.filter((words) => !said.includes(words)), []);
 });
 
 test('a report of nothing, and one of the largest numbers, have plots', () => {

@@ -26,7 +26,8 @@ export function traceOfSample(name) {
 
 /** Names that are as hostile as can be, in place of a table's own. */
 export const HOSTILE = [
-  '</text><script>alert(1)</script>', '"\' onload="alert(1)', '&amp;&#60;]]>', '\u202eevil\u2066\u200f', 'nul\u0000\u0007\u001b[31mred', '\ud800 lone \udfff',
+  '</text><script>alert(1)</script>', '"\' onload="alert(1)', '&amp;&#60;]]>', '\u202eevil\u2066\u200f', 'nul\u0000\u0007\u001b[31mred',
+  '\ud800 lone \udfff',
   '$end #0 \n\t\\x41', '\\N\\G"];}; evil -> [label="', 'w'.repeat(5000), '', '日本語の名前', '\ufffe\uffff\u2028\u{e0041}',
 ];
 
