@@ -71,9 +71,9 @@ function recordsOf(view) {
   const labels = new Labels({ x: sizes.left, y: lanes.top, width: width - sizes.left - 3, height: lanes.bottom - lanes.top });
   const marks = view.dense ? [] : marked(view);
   if (view.stretch.far) labels.block(view.end, lanes.top, width - view.end, lanes.bottom - lanes.top);
-  blockMarks(view, labels, marks.filter((step) => step.after !== null));
+  blockMarks(view, labels, marks);
   const words = refusedWords(view, labels);
-  blockMarks(view, labels, marks.filter((step) => step.after === null));
+  blockSelected(view, labels);
   return [selectedMark(view), view.dense ? denseRecords(view) : records(view, labels), refusedMark(view, words)];
 }
 
@@ -95,6 +95,9 @@ function selectedLine(view) {
   return step === null ? null : line(xOf(view, step), lanes.top - 4, xOf(view, step), lanes.bottom + 2, theme.lit, 2.6);
 }
 
+/** The radius of the ring around the selected record. */
+const RING = 15;
+
 /**
  * @param {View} view
  */
@@ -103,5 +106,13 @@ function selectedMark(view) {
   if (step === null) return null;
   const { theme } = view;
   const ring = { fill: theme.litFill, stroke: theme.lit, 'stroke-width': 2.6, class: 'selected-record', 'data-record': step.number };
-  return circle(xOf(view, step), yOf(view, step), 15, ring);
+  return circle(xOf(view, step), yOf(view, step), RING, ring);
+}
+
+/**
+ * @param {View} view @param {Labels} labels
+ */
+function blockSelected(view, labels) {
+  const step = selectedStep(view);
+  if (step !== null) labels.block(xOf(view, step) - RING - 2, yOf(view, step) - RING - 2, 2 * RING + 4, 2 * RING + 4);
 }

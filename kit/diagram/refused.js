@@ -6,7 +6,7 @@ import { nameOf } from '../name-of.js';
 import { thousands } from '../names.js';
 import { ownValue } from '../trace.js';
 import { axisNumber } from './backdrop.js';
-import { drawOnPlate } from './labels.js';
+import { boxOf, drawOnPlate } from './labels.js';
 import { sides, VERDICTS } from './record-words.js';
 import { isLater, refusedStep, timeOf, xOf, yOf } from './view.js';
 
@@ -56,7 +56,7 @@ export function refusedWords(view, labels) {
   const chosen = labels.choose([right, ...(inLane ? [] : around), ...rows]);
   labels.block(x - r - 2, y - r - 2, 2 * r + 4, 2 * r + 4);
   labels.block(x - 2, lanes.band.y, 4, lanes.band.height);
-  const fallback = x > view.width / 2 ? left : right;
+  const fallback = right.every((word) => boxOf(word).x + boxOf(word).width < view.width) ? right : left;
   return (chosen.length > 0 ? chosen : fallback).map((word) => drawOnPlate(word, theme.paper));
 }
 

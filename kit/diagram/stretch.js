@@ -40,8 +40,8 @@ export function stretchOf(trace, asked, room) {
   const refusedAt = trace.stop === null ? null : timeOfRefused(trace.steps[trace.stop], seen);
   const from = Math.max(0, Math.floor(asked.from ?? piece.from));
   const pace = paceOf(taken, trace.table.cycle);
-  const reach = Math.max((seen - from) / 2, pace);
   const far = refusedAt !== null && refusedAt > seen + Math.max((seen - from) / 2, 2 * pace);
+  const reach = Math.max(((far ? seen : Math.max(seen, refusedAt ?? 0)) - from) / 2, pace);
   const last = piece.last ? lastShown(trace, { from, seen, refusedAt, far, reach, pace }, room.words) : piece.to;
   const to = Math.max(from + 1, Math.ceil(asked.to ?? last));
   const known = refusedAt === null ? seen : far ? Math.max(to, seen) : Math.max(seen, refusedAt);

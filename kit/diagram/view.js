@@ -126,15 +126,17 @@ export function xOf(view, step) {
 }
 
 /**
- * The middle of the row on which a record stands.
+ * The middle of the row on which a record stands. What is no record stands where the next one was to come.
  * @param {View} view @param {Step} step
  * @returns {number}
  */
-export function yOf({ lanes }, step) {
+export function yOf({ lanes, taken }, step) {
   const { kind } = step.record;
+  const next = /** @type {const} */ (['poll', 'test', 'tick', 'tick']);
   if (kind === 'poll' || kind === 'test' || kind === 'tick') return lanes[kind];
-  if (kind === 'change' || kind === 'input') return lanes.input.y + lanes.input.height / 2;
-  return kind === 'end' ? lanes.cycle : lanes.test;
+  if (kind === 'change' || kind === 'input' || (kind === 'bytes' && step.before === null)) return lanes.input.y + lanes.input.height / 2;
+  if (kind === 'end' || step.before === null || taken[taken.length - 1].record.kind === 'end') return lanes.cycle;
+  return lanes[next[step.before.phase]];
 }
 
 /**
