@@ -219,6 +219,7 @@ test('a text may come as bytes, with a byte order mark and any line ends; other 
   for (const other of [`\ufeff${text}`, text.replaceAll('\n', '\r\n'), text.replaceAll('\n', '\r')]) {
     assert.ok(isText(other));
     assert.deepEqual(readText(new TextEncoder().encode(other)).parts, expected);
+    assert.deepEqual(readText(other).parts, expected);
   }
   const broken = new TextEncoder().encode(text);
   broken[text.indexOf('outputs')] = 0xff;
