@@ -81,8 +81,8 @@ export function states(scene) {
   const { layout: { places, radius, words }, theme } = scene;
   return places.map((place, state) => {
     const lit = scene.isLit(state);
-    const { name, output, holds } = words[state];
-    const title = `state ${name}, output ${output}${holds.map((hold) => `, ${hold.text}`).join('')}`;
+    const { name, output, delayed } = words[state];
+    const title = `state ${name}, output ${output}${delayed === '' ? '' : `, delays ${delayed}`}`;
     const look = { fill: lit ? theme.litFill : theme.paper, stroke: lit ? theme.lit : theme.ink, 'stroke-width': lit ? 4 : 2 };
     return group({ class: lit ? 'state lit' : 'state', 'data-state': state }, element('title', {}, title),
       circle(place.x, place.y, radius, look), inside(scene, place, state), badge(scene, place, state));

@@ -2,6 +2,7 @@
  * A table as a graph: one edge for each state and each state that it leads to, with the inputs that lead there.
  */
 import { delayedIn } from '../delayed-in.js';
+import { thousands } from '../names.js';
 import { has, members } from '../sets.js';
 import { nameOf } from '../name-of.js';
 
@@ -35,7 +36,22 @@ export function edgesOf(table) {
  * @property {string} output
  * @property {string} name
  * @property {{text: string, timer: number|null}[]} holds   what can hold a test here; empty if nothing can
+ * @property {string} delayed   the names of all inputs that are delayed here
  */
+
+/** Longer lists of inputs are only counted; whoever points at them sees them all. */
+const MOST_INPUTS = 6;
+const LONGEST_LIST = 26;
+
+/**
+ * Inputs as a picture names them: all by name if they are few.
+ * @param {number[]} inputs @param {string[]} names
+ */
+export function listOf(inputs, names) {
+  const list = inputs.map((input) => nameOf(names, input)).join(', ');
+  if (inputs.length === names.length && names.length > 2) return 'every input';
+  return inputs.length > MOST_INPUTS || (inputs.length > 2 && list.length > LONGEST_LIST) ? `${inputs.length} inputs` : list;
+}
 
 /**
  * What stands in a state: its output, its name, and its hold with the inputs that it delays.
@@ -43,10 +59,11 @@ export function edgesOf(table) {
  * @returns {Words}
  */
 export function wordsOf(table, names, state) {
-  const delays = (/** @type {number} */ set) => `{${members(set).map((input) => nameOf(names.inputs, input)).join(', ')}}`;
-  const holds = table.kind === 'holds'
-    ? [{ text: table.holds[state] === 0 ? '0' : `${table.holds[state]}, ${delays(table.delayed[state])}`, timer: null }]
-    : table.timers.map((timer, k) => ({ text: `${nameOf(names.timers, k)} ${delays(timer.delays[state])}`, timer: k }))
-      .filter(({ timer }) => has(table.timers[timer].region, state) && table.timers[timer].delays[state] !== 0);
-  return { output: nameOf(names.outputs, table.outputs[state]), name: nameOf(names.states, state), holds };
+  const delays = (/** @type {number} */ set) => `{${listOf(members(set), names.inputs)}}`;
+  const hold = table.holds[state] === 0 ? '0' : `${thousands(table.holds[state] ?? 0)}, ${delays(table.delayed[state])}`;
+  const timers = table.timers.map((timer, k) => ({ text: `${nameOf(names.timers, k)} ${delays(timer.delays[state])}`, timer: k }))
+    .filter(({ timer }) => has(table.timers[timer].region, state) && table.timers[timer].delays[state] !== 0);
+  const holds = table.kind === 'holds' ? [{ text: hold, timer: null }] : timers;
+  const delayed = members(delayedIn(table, state)).map((input) => nameOf(names.inputs, input)).join(', ');
+  return { output: nameOf(names.outputs, table.outputs[state]), name: nameOf(names.states, state), holds, delayed };
 }

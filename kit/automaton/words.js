@@ -2,7 +2,7 @@
  * Words in states and at edges: how they are set, and how large a state's circle must be for them.
  */
 import { fit, widthOf, wrap } from '../text-width.js';
-import { nameOf } from '../name-of.js';
+import { listOf } from './graph.js';
 
 /** @typedef {import('./graph.js').Words} Words */
 /** @typedef {import('./graph.js').Edge} Edge */
@@ -110,21 +110,9 @@ const MOST_LINES = 3;
  */
 export function edgeLabel(edge, names, lit) {
   const of = (/** @type {number[]} */ inputs, /** @type {boolean} */ delayed) =>
-    listOf(inputs, names).map((text) => ({ text, delayed, lit: lit !== null && inputs.includes(lit) }));
+    wrap(listOf(inputs, names), EDGE_ROOM, EDGE_SIZE).map((text) => ({ text, delayed, lit: lit !== null && inputs.includes(lit) }));
   const all = [...of(edge.free, false), ...of(edge.delayed, true)];
   const lines = all.length <= MOST_LINES ? all : [...all.slice(0, MOST_LINES - 1), { ...all[MOST_LINES - 1], text: '…' }];
   const width = Math.max(...lines.map((line) => widthOf(line.text, EDGE_SIZE, line.lit)));
   return { lines, width, height: lines.length * EDGE_SIZE * 1.2 };
-}
-
-/**
- * @param {number[]} inputs @param {string[]} names
- * @returns {string[]}   lines
- */
-function listOf(inputs, names) {
-  const count = names.length;
-  const others = names.filter((_, input) => !inputs.includes(input));
-  if (inputs.length === count && count > 2) return ['every input'];
-  if (count > 4 && others.length <= 2) return wrap(`all but ${others.join(', ')}`, EDGE_ROOM, EDGE_SIZE);
-  return inputs.length === 0 ? [] : wrap(inputs.map((input) => nameOf(names, input)).join(', '), EDGE_ROOM, EDGE_SIZE);
 }

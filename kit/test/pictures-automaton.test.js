@@ -5,6 +5,8 @@ import { automaton, automatonDot } from '../automaton.js';
 import { edgesOf } from '../automaton/graph.js';
 import { layoutOf } from '../automaton/layout.js';
 import { distance } from '../automaton/route.js';
+import { delayedIn } from '../delayed-in.js';
+import { members } from '../sets.js';
 import { Chance } from './chance.js';
 import { drawTable } from './draw.js';
 import { HOSTILE, tableOf, withHostileNames } from './pictures-fixtures.js';
@@ -49,6 +51,8 @@ test('each state and each edge is there once, and each input is named', () => {
         assert.ok(edge.children[0].text.includes(table.names.inputs[input]));
       }
     }
+    const delays = ofClass(root, 'state').map((group) => group.children[0].text.split(', delays ')[1] ?? '');
+    assert.deepEqual(delays, table.outputs.map((_, q) => members(delayedIn(table, q)).map((input) => table.names.inputs[input]).join(', ')));
     assert.ok(table.names.states.every((name) => all(root).some(({ text }) => text === name)));
   }
 });
