@@ -3,6 +3,8 @@
  * of the axis, so that it does not squash the rest.
  */
 
+import { clocks } from '../trace.js';
+
 /** @typedef {import('../types.js').Trace} Trace */
 /** @typedef {import('../types.js').Step} Step */
 
@@ -68,7 +70,8 @@ function paceOf(taken, bound) {
 }
 
 /**
- * Behind a refused record some of what was not read is shown, and the end of a hold that is running, if they are near.
+ * Behind a refused record some of what was not read is shown, and the end of a hold that is running with a little beyond it, if they are
+ * near.
  * @param {Trace} trace @param {{from: number, seen: number, refusedAt: number|null, far: boolean, reach: number, pace: number}} found
  * @param {number} words   the share of the width that is left free behind the refused record
  */
@@ -77,31 +80,27 @@ function lastShown(trace, { from, seen, refusedAt, far, reach, pace }, words) {
   const machine = trace.steps[trace.stop ?? 0].before;
   const base = far ? seen + Math.min(pace / 2, reach) : Math.max(seen, refusedAt);
   const unread = far ? [] : trace.steps.slice((trace.stop ?? 0) + 1).map((step) => step.record.time);
-  const limits = machine === null ? [] : [machine.cycleStart + trace.table.cycle, ...endsOf(trace, machine)];
+  const ends = machine === null ? [] : clocks(trace.table, machine).filter(({ delays }) => delays !== 0).map((clock) => clock.from + clock.length + 1);
+  const limits = machine === null ? [] : [machine.cycleStart + trace.table.cycle, ...ends];
   const near = [...unread.filter((time) => time <= base + reach), ...limits.filter((time) => time <= base + 1.5 * reach)];
   const free = far || refusedAt < seen ? base : (base - words * from) / (1 - words);
   return near.reduce((a, b) => Math.max(a, b), free);
 }
 
 /**
- * When the clocks of the machine's state end, and a little beyond, so that the dot does not stand at the edge.
- * @param {Trace} trace @param {import('../types.js').Machine} machine
- */
-function endsOf({ table }, machine) {
-  if (table.kind === 'holds') return table.delayed[machine.state] === 0 ? [] : [machine.entry + table.holds[machine.state] + 1];
-  return table.timers.filter((timer) => timer.region >>> machine.state & 1)
-    .map((timer) => machine.regionEntries[table.timers.indexOf(timer)] + timer.length + 1);
-}
-
-/**
- * The piece of a long journal that is shown: the one that has the selected record; or else the last one before a refusal, or the first.
+ * The piece of a long journal that is shown: the one that has the selected record, or begins or ends at the time asked for; or else the
+ * last one before a refusal, or the first.
  * @param {Step[]} taken @param {boolean} refused @param {Asked} asked @param {Room} room
  */
-function pieceOf(taken, refused, { selected }, room) {
-  const cuts = cutsOf(taken, refused, room);
-  const wanted = selected ?? (refused ? taken.length : 0);
+function pieceOf(taken, refused, { selected, from, to }, room) {
+  const first = from === undefined ? 0 : Math.max(0, taken.findIndex((step) => step.record.time >= from));
+  const behind = to === undefined ? -1 : taken.findIndex((step) => step.record.time > to);
+  const part = taken.slice(first, behind < 0 ? undefined : behind);
+  const fromEnd = from === undefined && (refused || to !== undefined);
+  const cuts = cutsOf(part, fromEnd, room);
+  const wanted = selected === null || selected === undefined ? (fromEnd ? part.length : 0) : selected - first;
   const k = Math.max(0, cuts.findIndex((_, index) => wanted < (cuts[index + 1] ?? Infinity)));
-  const timeAt = (/** @type {number} */ index) => taken[index]?.record.time ?? 0;
+  const timeAt = (/** @type {number} */ index) => part[index]?.record.time ?? 0;
   const last = k === cuts.length - 1;
   return { from: timeAt(cuts[k]), to: last ? 0 : timeAt(cuts[k + 1]), last };
 }

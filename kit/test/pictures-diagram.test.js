@@ -165,6 +165,8 @@ test('a window is kept to, and a record that is asked for is in the picture', ()
   assert.equal(ofClass(root, 'overview').length, 1);
   assert.equal(ofClass(look(run), 'overview').length, 0);
   const long = traceOf(slow, longJournal(slow));
+  const later = look(long, { from: 4000 });
+  assert.ok(later.attributes['data-from'] === '4000' && Number(later.attributes['data-to']) > 4050 && Number(later.attributes['data-to']) < 5000);
   for (const selected of [0, 1, 999, 4000, long.steps.length - 1]) {
     const picture = look(long, { selected, step: true });
     assert.equal(ofClass(picture, 'selected-record').length, 1);
