@@ -40,6 +40,7 @@ export function widthOf(text, size, bold = false) {
  * @returns {string}
  */
 export function fit(text, room, size, bold = false) {
+  if (room < size / 2) return '';
   if (widthOf(text, size, bold) <= room) return text;
   const characters = [...visible(text)];
   let keep = 0;

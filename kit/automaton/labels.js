@@ -19,6 +19,9 @@ import { distance, pointAt } from './route.js';
  * @property {Box[]} boxes        words that have their place
  */
 
+/** With more lines than this there is no room for words anywhere, and each stands at the middle of its edge. */
+const MANY_LINES = 240;
+
 /** Along an edge, the best first. */
 const STEPS = [0.5, 0.42, 0.58, 0.34, 0.66, 0.26, 0.74, 0.2, 0.8];
 
@@ -43,6 +46,7 @@ const wider = (box, by) => ({ x: box.x - by, y: box.y - by, width: box.width + 2
  * @param {Point[]} own     points along its own edge
  */
 function disturbance(box, { places, radius, lines, boxes }, own) {
+  if (lines.length > MANY_LINES) return 0;
   const nearest = (/** @type {Point} */ place) => ({
     x: Math.min(Math.max(place.x, box.x), box.x + box.width), y: Math.min(Math.max(place.y, box.y), box.y + box.height),
   });
@@ -61,7 +65,8 @@ function disturbance(box, { places, radius, lines, boxes }, own) {
  */
 export function besideEdge(route, size, obstacles) {
   const { start, control, end } = route;
-  const choices = STEPS.flatMap((t, rank) => [-1, 1].map((side) => {
+  const steps = obstacles.lines.length > MANY_LINES ? [0.5] : STEPS;
+  const choices = steps.flatMap((t, rank) => [-1, 1].map((side) => {
     const [point, ahead] = [pointAt(start, control, end, t), pointAt(start, control, end, t + 0.01)];
     const length = Math.max(1e-6, distance(point, ahead));
     const normal = { x: side * (ahead.y - point.y) / length, y: -side * (ahead.x - point.x) / length };

@@ -54,7 +54,7 @@ function leaving(a, c, b, radius) {
  * @param {{from: number, to: number}} edge @param {Point[]} places @param {number} radius @param {number} bend
  * @returns {Route}
  */
-export function curve({ from, to }, places, radius, bend) {
+function curve({ from, to }, places, radius, bend) {
   const [a, b] = [places[from], places[to]];
   const length = Math.max(1, distance(a, b));
   const control = { x: (a.x + b.x) / 2 + 2 * bend * (b.y - a.y) / length, y: (a.y + b.y) / 2 - 2 * bend * (b.x - a.x) / length };
@@ -103,7 +103,7 @@ function near(a, b, by) {
  * How often two curves cross.
  * @param {Route} one @param {Route} other
  */
-export function crossings(one, other) {
+function crossings(one, other) {
   if (!near(one.bounds, other.bounds, 0)) return 0;
   let count = 0;
   for (let i = 0; i < PIECES; i++) {

@@ -2,7 +2,7 @@
  * What lies behind the records: the axis, the input, the phases, state and output, and the hatching over what was not read.
  */
 import { element, group, line, path, rect, text } from '../svg.js';
-import { fit, firstThatFits, widthOf } from '../text-width.js';
+import { fit, widthOf } from '../text-width.js';
 import { delayedIn } from '../delayed-in.js';
 import { nameOf } from '../name-of.js';
 import { thousands } from '../names.js';
@@ -110,23 +110,22 @@ function rowName({ sizes, theme }, y, word, under) {
 /**
  * A lane of runs. In a crowded picture they are drawn by columns of pixels.
  * @param {View} view @param {Run[]} runs @param {{y: number, height: number}} lane @param {string[]} colours
- * @param {((value: number) => string[]) | null} words   names of a run, the best first
+ * @param {((value: number) => string) | null} name   of a run
  */
-function lane(view, runs, { y, height }, colours, words) {
+function lane(view, runs, { y, height }, colours, name) {
   const { theme, x } = view;
   const pieces = view.dense ? columnsOf(runs, x, 1.5) : runs.map((run) => ({ x: x(run.from), width: x(run.to) - x(run.from), value: run.value }));
   const boxes = [...new Set(pieces.map((piece) => piece.value))].map((value) =>
     path(boxesOf(pieces.filter((piece) => piece.value === value), y, height), { fill: inTurn(colours, value) }));
-  const borders = words === null || view.dense ? null : path(boxesOf(pieces, y, height), { fill: 'none', stroke: theme.border });
-  return [boxes, borders, words === null ? null : pieces.map((piece) => laneWord(view, piece, y + height / 2, words))];
+  const borders = name === null || view.dense ? null : path(boxesOf(pieces, y, height), { fill: 'none', stroke: theme.border });
+  return [boxes, borders, name === null ? null : pieces.map((piece) => laneWord(view, piece, y + height / 2, name(piece.value)))];
 }
 
 /**
- * @param {View} view @param {{x: number, width: number, value: number}} piece @param {number} y @param {(value: number) => string[]} words
+ * @param {View} view @param {{x: number, width: number}} piece @param {number} y @param {string} name
  */
-function laneWord({ sizes, theme }, piece, y, words) {
-  if (piece.width < sizes.text) return null;
-  const word = firstThatFits(words(piece.value), piece.width - 8, sizes.text);
+function laneWord({ sizes, theme }, piece, y, name) {
+  const word = fit(name, piece.width - 8, sizes.text);
   return text(piece.x + piece.width / 2, y + sizes.text * 0.36, word, { size: sizes.text, fill: theme.ink, anchor: 'middle' });
 }
 
@@ -153,7 +152,7 @@ export function inputLane(view) {
   const under = { y: lanes.input.y + lanes.input.height + 3, height: 7 };
   const delayed = [theme.heldFill, theme.heldFill];
   return group({ class: 'input' },
-    inTime(view, (machine) => machine.present, (runs) => lane(view, runs, lanes.input, theme.inputs, (value) => [nameOf(trace.names.inputs, value)])),
+    inTime(view, (machine) => machine.present, (runs) => lane(view, runs, lanes.input, theme.inputs, (value) => nameOf(trace.names.inputs, value))),
     inTime(view, (machine) => Number(has(delayedIn(trace.table, machine.state), machine.present)),
       (runs) => lane(view, runs.filter((run) => run.value === 1), under, delayed, null)));
 }
@@ -179,8 +178,8 @@ export function stateLanes(view) {
   const { outputs } = trace.table;
   const [states, signals] = [trace.names.states, trace.names.outputs];
   return group({ class: 'state' },
-    inTime(view, (machine) => machine.state, (runs) => lane(view, runs, lanes.state, theme.states, (value) => [nameOf(states, value)])),
-    inTime(view, (machine) => outputs[machine.state], (runs) => lane(view, runs, lanes.output, theme.outputs, (value) => [nameOf(signals, value)])));
+    inTime(view, (machine) => machine.state, (runs) => lane(view, runs, lanes.state, theme.states, (value) => nameOf(states, value))),
+    inTime(view, (machine) => outputs[machine.state], (runs) => lane(view, runs, lanes.output, theme.outputs, (value) => nameOf(signals, value))));
 }
 
 /**

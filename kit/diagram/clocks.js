@@ -95,11 +95,9 @@ function asKnown(view, bars) {
   const now = presentOf(view)?.step;
   if (now === undefined) return bars;
   const { time } = now.record;
-  const entered = now.after ?? now.before;
-  const known = bars.map((bar) => {
-    const begun = bar.from < time || (bar.from === time && (entered?.entry === bar.from || bar.from === 0));
-    return { ...bar, later: !begun, to: begun && bar.to !== null && bar.to > time ? null : bar.to };
-  });
+  const ticked = (now.after ?? now.before)?.cycleStart === time;
+  const hasCome = (/** @type {number|null} */ tick) => tick !== null && (tick < time || (tick === time && ticked));
+  const known = bars.map((bar) => ({ ...bar, later: !hasCome(bar.from), to: hasCome(bar.from) && !hasCome(bar.to) ? null : bar.to }));
   const present = known.find((bar) => !bar.later && bar.to === null);
   return known.filter((bar) => !bar.later || present === undefined || bar.from > present.end);
 }

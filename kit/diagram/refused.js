@@ -23,7 +23,7 @@ const IN_SHORT = new Map([
  * @param {View} view @param {Step} step
  * @returns {string[]}   what it says, then what is
  */
-export function inShort({ trace, stretch }, step) {
+function inShort({ trace, stretch }, step) {
   const own = ownValue(trace, step);
   const { kind, value, time } = step.record;
   const lists = { poll: trace.names.inputs, test: VERDICTS, tick: trace.names.states };
