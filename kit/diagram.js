@@ -71,8 +71,10 @@ function recordsOf(view) {
   const labels = new Labels({ x: sizes.left, y: lanes.top, width: width - sizes.left - 3, height: lanes.bottom - lanes.top });
   const marks = view.dense ? [] : marked(view);
   if (view.stretch.far) labels.block(view.end, lanes.top, width - view.end, lanes.bottom - lanes.top);
-  blockMarks(view, labels, marks);
+  const isUnreadLine = (/** @type {import('./types.js').Step} */ step) => step.after === null && ['tick', 'end'].includes(step.record.kind);
+  blockMarks(view, labels, marks.filter((step) => !isUnreadLine(step)));
   const words = refusedWords(view, labels);
+  blockMarks(view, labels, marks.filter(isUnreadLine));
   blockSelected(view, labels);
   return [selectedMark(view), view.dense ? denseRecords(view) : records(view, labels), refusedMark(view, words)];
 }

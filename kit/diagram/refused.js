@@ -78,7 +78,7 @@ export function refusedLine(view, foot) {
   if (step === null) return null;
   const { theme, lanes, sizes } = view;
   const x = xOf(view, step);
-  return group({ class: 'refusal-line' },
+  return group({ class: 'refusal-line', opacity: isLater(view, step) ? 0.3 : null },
     line(x, lanes.top, x, foot, theme.red, 1.8, { 'stroke-dasharray': '6 4' }),
     axisNumber(view, timeOf(view, step), { size: sizes.small + 0.5, fill: theme.red, bold: true }));
 }
