@@ -86,6 +86,11 @@ test('what is longer than the memory gets the same answer as the whole would', (
   assert.deepEqual(library.checkTable(followed), { ok: false, number: 8, place: 48 });
 });
 
+test('a place may be large', () => {
+  const changes = Uint8Array.from([0x10, 0, 1, 0, ...Array.from({ length: 8191 }, () => [0x11, 0, 5, 0, 0, 0, 0, 0]).flat()]);
+  assert.deepEqual(library.checkJournal(table, changes), { ok: false, number: 20, place: 65532 });
+});
+
 test('nothing that was given is changed, and answers do not share memory', () => {
   const [given, before] = [journal.slice(), journal.slice()];
   const first = library.run(table, file('classroom/stimulus.bin'));
