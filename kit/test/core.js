@@ -14,10 +14,3 @@ export function sample(name) {
 export function sameBytes(one, other) {
   return Buffer.compare(one, other) === 0;
 }
-
-/** The answer of the library for bytes in a form, with the place in these bytes. @param {any} given */
-export function judge({ table, bytes, form }) {
-  if (form === 'short') return library.checkShort(table, bytes);
-  if (form === 'stimulus') return library.run(table, bytes);
-  return library.checkJournal(table, bytes);
-}
