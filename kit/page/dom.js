@@ -1,0 +1,56 @@
+/** Elements of the page. Whatever is shown goes in as text, never as markup; only pictures, whose names are escaped, are parsed. */
+
+import { visible } from '../escape.js';
+
+/** @typedef {HTMLElement|string|null|false|undefined} Child */
+
+/**
+ * @param {string} id
+ * @returns {any}
+ */
+export function byId(id) {
+  return document.getElementById(id);
+}
+
+/**
+ * @param {string} tag @param {Record<string, any>} [attributes]  `onclick` and the like are functions
+ * @param {...(Child|Child[])} children
+ * @returns {any}
+ */
+export function make(tag, attributes = {}, ...children) {
+  const element = document.createElement(tag);
+  for (const [name, value] of Object.entries(attributes)) {
+    if (typeof value === 'function') element.addEventListener(name.slice(2), value);
+    else if (value !== null && value !== undefined && value !== false) element.setAttribute(name, value === true ? '' : String(value));
+  }
+  fill(element, children);
+  return element;
+}
+
+/**
+ * Puts these children in the place of all others.
+ * @param {Element} element @param {...(Child|Child[])} children
+ */
+export function fill(element, ...children) {
+  const nodes = children.flat(2).filter((child) => child !== null && child !== false && child !== undefined);
+  element.replaceChildren(...nodes.map((child) => (typeof child === 'string' ? visible(child) : /** @type {any} */ (child))));
+}
+
+/**
+ * A picture in the place of what the element shows.
+ * @param {Element} element @param {string} svg
+ */
+export function show(element, svg) {
+  const parsed = new DOMParser().parseFromString(svg, 'image/svg+xml').documentElement;
+  element.replaceChildren(document.importNode(parsed, true));
+}
+
+/**
+ * A file for the reader to keep.
+ * @param {string} name @param {Uint8Array|string|Blob} content @param {string} [type]
+ */
+export function save(name, content, type = 'application/octet-stream') {
+  const url = URL.createObjectURL(content instanceof Blob ? content : new Blob([/** @type {any} */ (content)], { type }));
+  make('a', { href: url, download: name }).click();
+  setTimeout(() => URL.revokeObjectURL(url), 10000);
+}

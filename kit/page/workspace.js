@@ -1,0 +1,173 @@
+/**
+ * The three texts of the page, read as one, and the library's answers about them. Nothing is judged here, and nothing is drawn.
+ */
+
+import { decodeRecords, decodeTable } from '../fields.js';
+import { explainJournal, explainTable } from '../explain.js';
+import { originAt, readText } from '../notation.js';
+import { traceJournal, traceStimulus } from '../trace.js';
+
+/** @typedef {import('../types.js').Library} Library */
+/** @typedef {import('../types.js').Part} Part */
+/** @typedef {import('../types.js').Names} Names */
+/** @typedef {import('../types.js').Table} Table */
+/** @typedef {import('../types.js').Trace} Trace */
+/** @typedef {import('../types.js').Refusal} Refusal */
+/** @typedef {import('../types.js').Explanation} Explanation */
+/** @typedef {'table'|'stimulus'|'journal'} Pane */
+/** @typedef {Record<Pane, string>} Texts */
+/** @typedef {{pane: Pane, line: number, column: number, width: number}} Spot  a piece of a pane's text; lines and columns from 1 */
+/** @typedef {Spot & {says: string}} PaneMistake */
+
+/**
+ * @typedef {Object} Reading
+ * @property {PaneMistake[]} mistakes
+ * @property {Names|null} names
+ * @property {Part|null} table
+ * @property {Part|null} stimulus
+ * @property {Part|null} journal       of any of the three forms
+ * @property {(line: number) => {pane: Pane, line: number}} place  from a line of all texts to a pane's line
+ */
+
+/**
+ * What is known of a journal or a stimulus under a table that passes.
+ * @typedef {Object} Subject
+ * @property {'journal'|'stimulus'} kind
+ * @property {Part} part
+ * @property {Trace} trace             of a stimulus that runs, that of its journal
+ * @property {Explanation|null} explanation  of a refusal
+ * @property {number[]} lines          of each step the line in its pane; 0 where it has none
+ */
+
+/**
+ * @typedef {Object} Answers
+ * @property {Reading} reading
+ * @property {Refusal|null} tableRefused
+ * @property {Explanation|null} tableExplanation
+ * @property {Table|null} decoded      a table that passes
+ * @property {Subject|null} journal
+ * @property {Subject|null} stimulus
+ */
+
+/** @type {Pane[]} */
+export const PANES = ['table', 'stimulus', 'journal'];
+
+/** @param {string} text */
+const linesOf = (text) => text.split(/\r\n|\n|\r/);
+
+/**
+ * The first line that says something, if it does not begin with the word `krossvil`.
+ * @param {string[]} lines
+ * @returns {number} counted from 1; 0 if there is none
+ */
+function headlessLine(lines) {
+  const k = lines.findIndex((line) => !/^\s*(#|$)/.test(line));
+  return k < 0 || /^\s*krossvil(\s|$)/.test(lines[k]) ? 0 : k + 1;
+}
+
+/**
+ * All panes as one text, so that the table's names and mistakes count in all of them. A pane without a heading is left out: its lines
+ * would be taken for those of the pane before.
+ * @param {Texts} texts
+ * @returns {Reading}
+ */
+export function readPanes(texts) {
+  /** @type {string[]} */
+  const all = [];
+  /** @type {PaneMistake[]} */
+  const headless = [];
+  const starts = PANES.map((pane) => {
+    const start = all.length;
+    const lines = linesOf(texts[pane]);
+    const line = headlessLine(lines);
+    const says = `this text begins with the words: krossvil ${pane}`;
+    if (line > 0) headless.push({ pane, line, column: 1, width: Math.max(1, lines[line - 1].length), says });
+    all.push(...(line > 0 ? lines.map(() => '') : lines));
+    return start;
+  });
+  const text = readText(all.join('\n'));
+  const place = (/** @type {number} */ line) => {
+    const k = starts.findLastIndex((start) => start < line);
+    return { pane: PANES[Math.max(0, k)], line: line - starts[Math.max(0, k)] };
+  };
+  const said = headless.length > 0 && text.parts.length === 0 && all.every((line) => line.trim() === '') ? [] : text.mistakes;
+  const mistakes = [...headless, ...said.map((mistake) => ({ ...mistake, ...place(mistake.line) }))];
+  const part = (/** @type {string[]} */ kinds) => text.parts.find(({ kind }) => kinds.includes(kind)) ?? null;
+  return {
+    mistakes, names: text.names, place, table: part(['table']), stimulus: part(['stimulus']), journal: part(['journal', 'stamped', 'short']),
+  };
+}
+
+/**
+ * The line of each record, by its number. Each origin of a whole record comes before those of its pieces.
+ * @param {Reading} reading @param {Part} part @param {number[]} places
+ */
+function linesAt(reading, part, places) {
+  /** @type {Map<number, number>} */
+  const lines = new Map();
+  for (const { place, line } of part.origins) if (!lines.has(place)) lines.set(place, reading.place(line).line);
+  return places.map((place) => lines.get(place) ?? 0);
+}
+
+/**
+ * @param {Library} library @param {Reading} reading @param {Uint8Array} table
+ * @returns {Subject|null}
+ */
+function journalSubject(library, reading, table) {
+  const { journal: part, names } = reading;
+  const form = /** @type {import('../types.js').Form} */ (part?.kind);
+  const trace = part && traceJournal(library, { table, journal: part.bytes, form, names: names ?? undefined });
+  if (!part || !trace) return null;
+  const lines = linesAt(reading, part, trace.steps.map(({ record }) => record.place));
+  return { kind: 'journal', part, trace, explanation: trace.refused ? explainJournal(trace) : null, lines };
+}
+
+/**
+ * @param {Library} library @param {Reading} reading @param {Uint8Array} table
+ * @returns {Subject|null}
+ */
+function stimulusSubject(library, reading, table) {
+  const { stimulus: part, names } = reading;
+  if (!part) return null;
+  const known = names ?? undefined;
+  const ran = library.run(table, part.bytes);
+  const trace = ran.ok ? traceJournal(library, { table, journal: ran.bytes, form: 'journal', names: known })
+    : traceStimulus(library, { table, stimulus: part.bytes, names: known });
+  if (!trace) return null;
+  const lines = linesAt(reading, part, decodeRecords(part.bytes, 'stimulus').map(({ place }) => place));
+  return { kind: 'stimulus', part, trace, explanation: trace.refused ? explainJournal(trace) : null, lines };
+}
+
+/**
+ * Asks the library everything that the three texts allow.
+ * @param {Library} library @param {Texts} texts
+ * @returns {Answers}
+ */
+export function ask(library, texts) {
+  const reading = readPanes(texts);
+  /** @type {Answers} */
+  const answers = { reading, tableRefused: null, tableExplanation: null, decoded: null, journal: null, stimulus: null };
+  if (!reading.table) return answers;
+  const { bytes } = reading.table;
+  const checked = library.checkTable(bytes);
+  if (!checked.ok) {
+    answers.tableRefused = { number: checked.number, place: checked.place };
+    answers.tableExplanation = explainTable(bytes, answers.tableRefused, reading.names ?? undefined);
+    return answers;
+  }
+  answers.decoded = decodeTable(bytes, reading.names);
+  answers.journal = journalSubject(library, reading, bytes);
+  answers.stimulus = stimulusSubject(library, reading, bytes);
+  return answers;
+}
+
+/**
+ * The piece of a pane's text that a refusal points at.
+ * @param {Reading} reading @param {Part} part @param {number} place
+ * @returns {Spot|null}
+ */
+export function spotOf(reading, part, place) {
+  const origin = originAt(part, place);
+  if (!origin) return part.bytes.length === 0 ? { ...reading.place(part.line), column: 1, width: 1 } : null;
+  return { ...reading.place(origin.line), column: origin.column, width: origin.width };
+}
