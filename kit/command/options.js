@@ -1,0 +1,27 @@
+/** The options, and what each is for. */
+
+/** @typedef {{type: 'string'|'boolean', short?: string, value?: string, says: string}} Option */
+
+/** @type {Record<string, Option>} */
+export const OPTIONS = {
+  output: { type: 'string', short: 'o', value: 'FILE', says: 'write to FILE; its ending says the form' },
+  names: { type: 'string', value: 'TEXT', says: "take the names from this table's text" },
+  as: { type: 'string', value: 'KIND', says: 'table, journal, short, stamped or stimulus: what the bytes are, or which part of a text is meant' },
+  json: { type: 'boolean', says: 'one object on one line for each answer' },
+  plain: { type: 'boolean', says: 'no sentences and no colour' },
+  help: { type: 'boolean', short: 'h', says: 'this help' },
+  title: { type: 'string', value: 'WORDS', says: "the picture's title" },
+  width: { type: 'string', value: 'PIXELS', says: 'how wide the picture is' },
+  dark: { type: 'boolean', says: 'light on dark' },
+  begin: { type: 'string', value: 'TIME', says: 'the picture begins at this time' },
+  until: { type: 'string', value: 'TIME', says: 'the picture goes up to this time' },
+  graphviz: { type: 'boolean', says: 'let Graphviz place the states' },
+  from: { type: 'string', value: 'STATES', says: 'names with commas between; all states if left out' },
+  while: { type: 'string', value: 'INPUTS', says: 'names with commas between; all inputs if left out' },
+  moves: { type: 'string', value: 'N', says: 'over so many moves, at most 32, with the longest way' },
+  tight: { type: 'boolean', says: 'also the least bound in whole units' },
+  unit: { type: 'string', value: 'TIME', says: 'how long one unit is: 1 ms if left out; 1, 10 or 100 of s, ms, us, ns, ps or fs' },
+};
+
+/** Those that every command takes. */
+export const COMMON = ['names', 'json', 'plain', 'help'];

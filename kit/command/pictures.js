@@ -1,0 +1,112 @@
+/** `picture`: the timing diagram. `draw`: the automaton. `wave`: a dump for GTKWave. */
+
+import { basename } from 'node:path';
+import { automaton, automatonDot } from '../automaton.js';
+import { diagram } from '../diagram.js';
+import { MEANINGS, explainJournal, narrate } from '../explain.js';
+import { decodeTable } from '../fields.js';
+import { vcd } from '../vcd.js';
+import { ACCEPTED, REFUSED } from './asking.js';
+import { tableRefused } from './check.js';
+import { traced } from './records.js';
+import { Trouble } from './trouble.js';
+import { endingOf, put, putPicture } from './writing.js';
+
+/** @typedef {import('../types.js').Table} Table */
+/** @typedef {import('./asking.js').Asking} Asking */
+
+/**
+ * A number of an option.
+ * @param {Asking} asking @param {string} name @param {number} most
+ * @returns {number|undefined}
+ */
+export function numberOf({ options }, name, most) {
+  const words = options[name];
+  if (words === undefined) return undefined;
+  const number = /^[0-9]+$/.test(words) ? Number(words) : NaN;
+  if (!(number <= most)) throw new Trouble(`--${name} takes a number from 0 to ${most}, not '${words}'`);
+  return number;
+}
+
+/**
+ * @param {Asking} asking @param {string} file
+ */
+export function titleOf({ options }, file) {
+  return options.title ?? (file === '-' ? '' : basename(file).replace(/\.(kv|bin)$/, ''));
+}
+
+/** @param {Asking} asking */
+export const themeOf = ({ options }) => /** @type {'dark'|'light'} */ (options.dark ? 'dark' : 'light');
+
+/**
+ * @param {Asking} asking @param {string} file
+ */
+function said(asking, file) {
+  if (asking.json) asking.terminal.json({ file, answer: 'drawn', ...(asking.options.output === undefined ? {} : { wrote: asking.options.output }) });
+  return ACCEPTED;
+}
+
+/**
+ * A picture for people cannot go to where objects go.
+ * @param {Asking} asking
+ */
+function refuseMixing(asking) {
+  if (asking.json && (asking.options.output === undefined || asking.options.output === '-')) throw new Trouble('with --json give -o FILE');
+}
+
+/**
+ * @param {Asking} asking
+ */
+export function picture(asking) {
+  refuseMixing(asking);
+  const [begin, until, width] = [numberOf(asking, 'begin', 4294967295), numberOf(asking, 'until', 4294967295), numberOf(asking, 'width', 20000)];
+  const found = traced(asking);
+  if (!found) return REFUSED;
+  const { trace, source } = found;
+  const explanation = trace.refused ? explainJournal(trace) : null;
+  putPicture(asking, diagram(trace, {
+    title: titleOf(asking, source.file), theme: themeOf(asking), width, from: begin, to: until, narrate: (step) => narrate(trace, step),
+    sentences: explanation?.sentences, slip: explanation?.slip, meaning: MEANINGS.get(trace.refused?.number ?? 0),
+  }));
+  return said(asking, source.file);
+}
+
+/**
+ * @param {Asking} asking @param {Table} table
+ */
+function drawByGraphviz(asking, table) {
+  const ending = endingOf(asking, 'svg');
+  if (!['svg', 'png', 'pdf'].includes(ending)) throw new Trouble(`an automaton is written as .svg, .png, .pdf or .dot, not as .${ending}`);
+  const made = asking.io.convert('dot', [`-T${ending}`], automatonDot(table, { title: asking.options.title }));
+  if (!made) throw new Trouble('the package graphviz is missing: apt-get install graphviz; or leave --graphviz out');
+  put(asking, ending === 'svg' ? Buffer.from(made).toString('utf8') : made);
+}
+
+/**
+ * @param {Asking} asking
+ */
+export function draw(asking) {
+  refuseMixing(asking);
+  const width = numberOf(asking, 'width', 20000);
+  const source = asking.table();
+  if (tableRefused(asking, source)) return REFUSED;
+  const table = /** @type {Table} */ (decodeTable(source.bytes, source.names));
+  const title = titleOf(asking, source.file);
+  if (endingOf(asking, 'svg') === 'dot') put(asking, automatonDot(table, { title }));
+  else if (asking.options.graphviz) drawByGraphviz(asking, table);
+  else putPicture(asking, automaton(table, { title, width, theme: themeOf(asking) }));
+  return said(asking, source.file);
+}
+
+/**
+ * @param {Asking} asking
+ */
+export function wave(asking) {
+  refuseMixing(asking);
+  const { unit } = asking.options;
+  if (unit !== undefined && !/^(1|10|100) ?(s|ms|us|ns|ps|fs)$/.test(unit)) throw new Trouble(`--unit takes 1, 10 or 100 of s, ms, us, ns, ps or fs, as '10 ms'; not '${unit}'`);
+  const found = traced(asking);
+  if (!found) return REFUSED;
+  put(asking, vcd(found.trace, { unit }));
+  return said(asking, found.source.file);
+}

@@ -1,0 +1,192 @@
+/** The files that are named: bytes, or a text that begins with `krossvil`. A text may hold a table and its journals and stimulus together. */
+
+import { FORMS, decodeTable, formOf } from '../fields.js';
+import { plainNames } from '../names.js';
+import { FORM_WORDS, TEXT_MAX, isText, readText, showMistakes } from '../notation.js';
+import { Trouble } from './trouble.js';
+
+/** @typedef {import('../types.js').Form} Form */
+/** @typedef {import('../types.js').Names} Names */
+/** @typedef {import('../types.js').Part} Part */
+/** @typedef {import('../types.js').Text} Text */
+/** @typedef {import('./io.js').Io} Io */
+
+/**
+ * A table, a journal or a stimulus, and where it comes from.
+ * @typedef {Object} Source
+ * @property {string} file
+ * @property {'table'|Form} form
+ * @property {Uint8Array} bytes
+ * @property {Part|null} part      of the text that it comes from, if it does
+ * @property {Text|null} text
+ * @property {boolean} looksText   bytes that look like a text whose first word is missing
+ */
+
+/** @typedef {Source & {names: Names|null}} TableSource   null where the table comes from bytes and no names are given */
+
+/** Of a table what stands behind this changes no answer of the library. */
+const TABLE_READ = 70000;
+const LIMIT = TEXT_MAX + 1;
+
+const NONE = plainNames({ states: 0, inputs: 0, outputs: 0 }, 0);
+
+export const JOURNALS = /** @type {const} */ (['journal', 'stamped', 'short']);
+
+/** What is read of bytes in a form: one more than the most that the library takes. */
+const mostOf = (/** @type {'table'|Form} */ form) => (form === 'table' ? TABLE_READ : FORMS[form].max + 1);
+
+/**
+ * @param {string[]} words
+ */
+const either = (words) => (words.length < 2 ? words.join('') : `${words.slice(0, -1).join(', ')} or ${words[words.length - 1]}`);
+
+/** @param {'table'|Form} kind */
+export const wordOf = (kind) => (kind === 'table' ? 'table' : FORM_WORDS[kind]);
+
+/**
+ * Would a person call these bytes a text?
+ * @param {Uint8Array} bytes
+ */
+function looksLikeText(bytes) {
+  const start = bytes.subarray(0, 200);
+  return bytes.length > 3 && start.every((byte) => (byte >= 32 && byte < 127) || byte === 9 || byte === 10 || byte === 13);
+}
+
+export class Sources {
+  /** @param {Io} io */
+  constructor(io) {
+    this.io = io;
+    this.inputRead = false;
+  }
+
+  /** @param {string} file */
+  read(file) {
+    if (file === '-' && this.inputRead) throw new Trouble('the standard input can be read once only');
+    if (file === '-') this.inputRead = true;
+    return this.io.read(file, LIMIT);
+  }
+
+  /**
+   * @param {string} file @param {Uint8Array} data @param {Names|null} names
+   * @returns {Text}
+   */
+  text(file, data, names) {
+    const text = readText(data, names);
+    if (text.mistakes.length > 0) throw new Trouble(showMistakes(text, shownFile(file)));
+    return text;
+  }
+
+  /**
+   * The names of the table in a text.
+   * @param {string} file
+   * @returns {Names}
+   */
+  names(file) {
+    const data = this.read(file);
+    const text = isText(data) ? this.text(file, data, null) : null;
+    if (!text?.names) throw new Trouble(`${shownFile(file)}: names are taken from a table's text, and there is none`);
+    return text.names;
+  }
+
+  /**
+   * @param {string} file @param {Names|null} names  those that were asked for
+   * @returns {TableSource}
+   */
+  table(file, names) {
+    const data = this.read(file);
+    if (!isText(data)) return { ...bytesSource(file, data, 'table'), names };
+    const text = this.text(file, data, names);
+    const part = text.parts.find(({ kind }) => kind === 'table');
+    if (!part) throw new Trouble(`${shownFile(file)}: there is no table in this text; name the table's file first, then this one`);
+    return { file, form: 'table', bytes: part.bytes, part, text, looksText: false, names: names ?? text.names };
+  }
+
+  /**
+   * Records, with the table of their text if it has one.
+   * @param {string} file @param {Names|null} names @param {Form} form
+   * @returns {{table: TableSource|null, source: Source}}
+   */
+  alone(file, names, form) {
+    const data = this.read(file);
+    if (!isText(data)) return { table: null, source: bytesSource(file, data, form) };
+    const text = this.text(file, data, names ?? NONE);
+    const part = text.parts.find(({ kind }) => kind === 'table');
+    const table = part ? { file, form: part.kind, bytes: part.bytes, part, text, looksText: false, names: names ?? text.names } : null;
+    return { table, source: partsOf(file, text, [form], null)[0] };
+  }
+
+  /**
+   * Every part of a text, or bytes as what they are said to be or show themselves to be.
+   * @param {string} file @param {Names|null} names @param {'table'|Form|null} as
+   * @returns {{parts: Source[], names: Names|null, isText: boolean}}
+   */
+  any(file, names, as) {
+    const data = this.read(file);
+    if (!isText(data)) {
+      const form = as ?? formOf(data);
+      return { parts: [{ file, form, bytes: data, part: null, text: null, looksText: looksLikeText(data) }], names, isText: false };
+    }
+    const text = this.text(file, data, names);
+    const parts = text.parts.map((part) => ({ file, form: part.kind, bytes: part.bytes, part, text, looksText: false }));
+    return { parts, names: text.names, isText: true };
+  }
+
+  /**
+   * What a file has of these forms: of bytes one, of a text all parts that fit. `as` picks one, or says what bytes are.
+   * @param {string} file @param {TableSource} table @param {readonly Form[]} forms @param {Form|null} as
+   * @returns {Source[]}
+   */
+  records(file, table, forms, as) {
+    const data = this.read(file);
+    if (!isText(data)) return [bytesSource(file, data, as ?? ownForm(data, forms))];
+    return partsOf(file, this.text(file, data, namesFor(table)), forms, as);
+  }
+
+  /**
+   * The parts of the table's own text.
+   * @param {TableSource} table @param {readonly Form[]} forms @param {Form|null} as
+   * @returns {Source[]}
+   */
+  beside(table, forms, as) {
+    return table.text ? partsOf(table.file, table.text, forms, as) : [];
+  }
+}
+
+/** @param {string} file */
+export const shownFile = (file) => (file === '-' ? 'standard input' : file);
+
+/**
+ * @param {string} file @param {Uint8Array} data @param {'table'|Form} form
+ * @returns {Source}
+ */
+export function bytesSource(file, data, form) {
+  return { file, form, bytes: data.subarray(0, mostOf(form)), part: null, text: null, looksText: looksLikeText(data) };
+}
+
+/**
+ * What bytes show themselves to be, among the forms that are asked for.
+ * @param {Uint8Array} data @param {readonly Form[]} forms
+ */
+function ownForm(data, forms) {
+  const shown = formOf(data);
+  return forms.find((form) => form === shown) ?? forms[0];
+}
+
+/**
+ * @param {string} file @param {Text} text @param {readonly Form[]} forms @param {Form|null} as
+ * @returns {Source[]}
+ */
+function partsOf(file, text, forms, as) {
+  const wanted = as ? [as] : forms;
+  const parts = text.parts.filter(({ kind }) => wanted.some((form) => form === kind));
+  if (parts.length === 0) throw new Trouble(`${shownFile(file)}: there is no ${either(wanted.map(wordOf))} in this text`);
+  return parts.map((part) => ({ file, form: /** @type {Form} */ (part.kind), bytes: part.bytes, part, text, looksText: false }));
+}
+
+/**
+ * The names that a text without a table is read with.
+ * @param {TableSource} table
+ */
+function namesFor(table) {
+  return table.names ?? decodeTable(table.bytes)?.names ?? NONE;
+}

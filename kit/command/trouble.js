@@ -1,0 +1,2 @@
+/** The question could not be asked: no such file, a mistake in a text or in the command, a tool that is missing. The command ends with 2. */
+export class Trouble extends Error {}
