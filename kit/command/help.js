@@ -76,6 +76,7 @@ export function commandHelp(name) {
     usage(name), '', filled(`${says[0].toUpperCase()}${says.slice(1)}.`), '', filled(more.join(' ')), '',
     ...optionsOf(name).map(option), '',
     examples.length > 1 ? 'Examples:' : 'Example:', ...examples.flatMap(([line, does]) => [`  ${line}`, `      ${does}`]), '',
-    `The files of the examples are in ${examplesFolder()}.`, '',
+    `The texts of the examples are in ${examplesFolder()}.`,
+    ...(examples.some(([line]) => line.includes('table.bin ')) ? ['table.bin is made with: krossvil bytes classroom.kv --as table -o table.bin; journal.bin likewise.'] : []), '',
   ].join('\n');
 }

@@ -14,6 +14,9 @@ import { put } from './writing.js';
 /** @typedef {import('./sources.js').Source} Source */
 /** @typedef {import('./sources.js').TableSource} TableSource */
 
+/** The example that the page opens with: what is given takes its place, and it stays among the others under another name. */
+const OPENED = 'changed-verdict';
+
 const DATA = /(<script type="application\/json" id="data">)([^<]*)(<\/script>)/;
 
 /** JSON that cannot end the script in which it stands. */
@@ -33,14 +36,15 @@ function textOf(asking, table) {
 }
 
 /**
- * The page with one more example, before all others, which it shows first.
- * @param {string} html @param {{name: string, title: string, says: string, group: string, text: string}} example
+ * The page with one more example, with which it opens.
+ * @param {string} html @param {{title: string, says: string, group: string, text: string}} example
  */
 export function pageWith(html, example) {
   const found = DATA.exec(html);
   const data = found ? JSON.parse(found[2]) : null;
   if (!found || !Array.isArray(data?.samples)) throw new Trouble('this page takes no example; open it and drop the files on it');
-  data.samples.unshift(example);
+  for (const sample of data.samples) if (sample.name === OPENED) sample.name = `${OPENED}-2`;
+  data.samples.unshift({ name: OPENED, ...example });
   return html.slice(0, found.index) + found[1] + inScript(data) + found[3] + html.slice(found.index + found[0].length);
 }
 
@@ -57,7 +61,7 @@ export function page(asking) {
     const table = asking.table();
     const own = asking.files[asking.files.length - 1];
     const title = titleOf(asking, own) || 'Given';
-    put(asking, pageWith(html, { name: 'given', title, says: `From ${shownFile(own)}.`, group: 'runs', text: textOf(asking, table) }));
+    put(asking, pageWith(html, { title, says: `From ${shownFile(own)}.`, group: 'runs', text: textOf(asking, table) }));
   }
   if (asking.json) asking.terminal.json({ answer: 'written', wrote: asking.options.output });
   else if (asking.options.output !== undefined && asking.options.output !== '-') asking.terminal.sentence(`Open ${asking.options.output} in a browser.`);
