@@ -88,16 +88,18 @@ export function sayAnswer(answers, subject) {
 
 /**
  * @param {Element} room @param {Said} said @param {(spot: Spot) => void} go
+ * @param {{record: string, says: string}|null} [step]  a record that is looked at, in the place of the answer's own sentences
  */
-export function showAnswer(room, said, go) {
+export function showAnswer(room, said, go, step = null) {
   const { look, line, about, meaning, sentences, slip, spot, mistakes } = said;
   room.className = `answer ${look}`;
   const where = spot && make('button', { class: 'plain', id: 'go', onclick: () => go(spot) }, `line ${spot.line}`);
   fill(room,
     make('p', { class: 'line' }, make('span', { class: 'about' }, about), make('strong', { id: 'verdict' }, line),
       meaning && make('span', { class: 'meaning' }, meaning), where),
-    sentences.length > 0 && make('p', { class: 'sentences' }, sentences.join(' ')),
-    slip && make('p', { class: 'slip' }, slip),
+    step && make('p', { class: 'sentences', id: 'step-says' }, make('strong', { class: 'at-record' }, step.record), ` ${step.says}`),
+    !step && sentences.length > 0 && make('p', { class: 'sentences' }, sentences.join(' ')),
+    !step && slip && make('p', { class: 'slip' }, slip),
     mistakes.length > 0 && make('ul', { class: 'mistakes' },
       ...mistakes.map((each) => make('li', {}, make('button', { class: 'plain', onclick: () => go(each.spot) }, each.says)))));
 }

@@ -2,7 +2,7 @@
 
 import { formOf } from '../fields.js';
 import { isText, readText, recordsText, tableText } from '../notation.js';
-import { PANES } from './workspace.js';
+import { PANES, readPanes } from './workspace.js';
 
 /** @typedef {import('../types.js').Names} Names */
 /** @typedef {import('./workspace.js').Texts} Texts */
@@ -89,19 +89,36 @@ function sameBytes(one, other) {
 }
 
 /**
- * Puts files in the panes, tables first, since journals take their names.
+ * Records that name members of a table that is gone: the same bytes, in the words of the new table.
+ * @param {Texts} texts @param {Texts} old @param {Set<Pane>} filled
+ * @returns {Texts}
+ */
+function renamed(texts, old, filled) {
+  const [now, was] = [readPanes(texts), readPanes(old)];
+  const result = { ...texts };
+  for (const pane of PANES) {
+    const part = was[pane];
+    const lost = !filled.has(pane) && now.mistakes.some((mistake) => mistake.pane === pane);
+    if (lost && part && part.kind !== 'table') result[pane] = recordsText(part.bytes, part.kind, now.names);
+  }
+  return result;
+}
+
+/**
+ * Puts files in the panes, tables first, since journals take their names. A text that has a table is a whole: what it does not have is
+ * not kept.
  * @param {Texts} texts @param {Uint8Array[]} files
  * @returns {{texts: Texts, filled: Pane[]}}
  */
 export function takeFiles(texts, files) {
-  const isTable = (/** @type {Uint8Array} */ file) => (isText(file) ? 0 : formOf(file) === 'table' ? 1 : 2);
+  const rank = (/** @type {Uint8Array} */ file) => (isText(file) ? 0 : formOf(file) === 'table' ? 1 : 2);
   let result = texts;
   /** @type {Set<Pane>} */
   const filled = new Set();
-  for (const file of [...files].sort((a, b) => isTable(a) - isTable(b))) {
+  for (const file of [...files].sort((a, b) => rank(a) - rank(b))) {
     const found = isText(file) ? splitText(new TextDecoder().decode(file)) : bytesAsText(file, result);
     for (const pane of PANES) if (found[pane] !== undefined) filled.add(pane);
-    result = { ...result, ...found };
+    result = isText(file) && found.table !== undefined ? { ...noTexts(), ...found } : { ...result, ...found };
   }
-  return { texts: result, filled: [...filled] };
+  return { texts: filled.has('table') ? renamed(result, texts, filled) : result, filled: [...filled] };
 }

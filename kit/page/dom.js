@@ -38,11 +38,13 @@ export function fill(element, ...children) {
 
 /**
  * A picture in the place of what the element shows.
- * @param {Element} element @param {string} svg
+ * @param {Element} element @param {string} svg @param {number} [scale]  so many times as large as it was drawn
  */
-export function show(element, svg) {
+export function show(element, svg, scale = 1) {
   const parsed = new DOMParser().parseFromString(svg, 'image/svg+xml').documentElement;
-  element.replaceChildren(document.importNode(parsed, true));
+  const picture = document.importNode(parsed, true);
+  picture.style.width = `${scale * parseFloat(parsed.getAttribute('width') ?? '0')}px`;
+  element.replaceChildren(picture);
 }
 
 /**

@@ -1,6 +1,6 @@
 /** The machine's values at a step, those that the record changed set off, and a sentence about the record. */
 
-import { explainJournal, narrate } from '../explain.js';
+import { narrate } from '../explain.js';
 import { nameOf } from '../name-of.js';
 import { thousands } from '../names.js';
 import { members } from '../sets.js';
@@ -11,13 +11,13 @@ import { fill, make } from './dom.js';
 /** @typedef {import('../types.js').Step} Step */
 /** @typedef {import('../types.js').Machine} Machine */
 
-const PHASES = ['waits for its poll', 'has polled, waits for its test', 'held, waits for its tick', 'free, waits for its tick'];
+const PHASES = ['waits for its poll', 'polled, waits for its test', 'held, waits for its tick', 'free, waits for its tick'];
 
 /**
  * @param {Trace} trace @param {Machine} m
  * @returns {[string, string][]}
  */
-function clockRows(trace, m) {
+function clockCells(trace, m) {
   const { names } = trace;
   const here = clocks(trace.table, m);
   if (here.length === 0) return trace.table.kind === 'holds' ? [['hold', 'none']] : [['timers', 'none runs here']];
@@ -29,22 +29,22 @@ function clockRows(trace, m) {
 }
 
 /**
+ * Names and values; those of holds and timers, which are long, come last.
  * @param {Trace} trace @param {Machine} m
  * @returns {[string, string][]}
  */
-export function machineRows(trace, m) {
+export function machineCells(trace, m) {
   const { names, table } = trace;
-  const latest = m.cycleStart + table.cycle;
   return [
-    ['controller', PHASES[m.phase]],
-    ['input at the sensor', nameOf(names.inputs, m.present)],
-    ['last change', thousands(m.change)],
-    ['polled input', m.phase === 0 ? '-' : `${nameOf(names.inputs, m.polled)}, at ${thousands(m.polledAt)}`],
     ['state', nameOf(names.states, m.state)],
     ['output', nameOf(names.outputs, table.outputs[m.state])],
-    ['entry into the state', thousands(m.entry)],
-    ...clockRows(trace, m),
-    ['start of the cycle', `${thousands(m.cycleStart)}; it ends at ${thousands(latest)} at the latest`],
+    ['entered at', thousands(m.entry)],
+    ['input at the sensor', nameOf(names.inputs, m.present)],
+    ['last change', thousands(m.change)],
+    ['polled input', m.phase === 0 ? 'none yet' : `${nameOf(names.inputs, m.polled)}, at ${thousands(m.polledAt)}`],
+    ['cycle', `from ${thousands(m.cycleStart)}, to ${thousands(m.cycleStart + table.cycle)} at most`],
+    ['controller', PHASES[m.phase]],
+    ...clockCells(trace, m),
   ];
 }
 
@@ -57,13 +57,12 @@ export function machineAt(step) {
 }
 
 /**
- * One sentence or more about a step.
+ * A sentence about a step. The refused one has the answer's own sentences: null.
  * @param {Trace} trace @param {Step} step
  */
 export function sayStep(trace, step) {
   if (step.after) return narrate(trace, step);
-  if (step.number === trace.stop) return explainJournal(trace).sentences.join(' ');
-  return 'The journal was refused before this record, so it is not read.';
+  return step.number === trace.stop ? null : 'A record before this one is refused, so this one is not read.';
 }
 
 /**
@@ -72,13 +71,17 @@ export function sayStep(trace, step) {
 export function showMachine(room, trace, step) {
   const machine = machineAt(step);
   if (!machine) {
-    fill(room, make('p', { class: 'hint' }, 'Not read: there is no machine to show.'));
+    fill(room, cell('machine', 'not read any more', false));
     return;
   }
-  const before = new Map(step.before && step.after ? machineRows(trace, step.before) : []);
-  fill(room, make('table', { class: 'machine' }, make('tbody', {}, ...machineRows(trace, machine).map(([name, value]) => {
-    const changed = before.size > 0 && before.get(name) !== value;
-    return make('tr', { class: changed ? 'changed' : null }, make('th', { scope: 'row' }, name),
-      make('td', {}, value, changed && make('span', { class: 'unseen' }, ' (changed)')));
-  }))));
+  const before = new Map(step.before && step.after ? machineCells(trace, step.before) : []);
+  fill(room, machineCells(trace, machine).map(([name, value]) => cell(name, value, before.size > 0 && before.get(name) !== value)));
+}
+
+/**
+ * @param {string} name @param {string} value @param {boolean} changed
+ */
+function cell(name, value, changed) {
+  const wide = /^(hold|timer)/.test(name);
+  return make('div', { class: `${changed ? 'changed' : ''} ${wide ? 'wide' : ''}` }, make('dt', {}, name), make('dd', {}, value, changed && make('span', { class: 'unseen' }, ' (changed)')));
 }

@@ -5,6 +5,7 @@ import { diagram } from '../diagram.js';
 import { narrate } from '../explain.js';
 import { loadLibrary } from '../library.js';
 import { counted, thousands } from '../names.js';
+import { recordLine } from '../notation.js';
 import { sayAnswer, showAnswer, subjectOf } from './answer.js';
 import { joinTexts, noTexts, splitText, takeFiles } from './documents.js';
 import { byId, fill, make, save, show } from './dom.js';
@@ -27,6 +28,8 @@ const LINK_LATER = 400;
 const LINK_MOST = 30000;
 const SPEAK_LATER = 700;
 const UNDO_MOST = 30;
+const BESIDE_MOST = 4;
+const LARGER = 1.25;
 
 class Page {
   /**
@@ -135,13 +138,23 @@ class Page {
     this.subject = subjectOf(this.answers, this.pane);
     const said = sayAnswer(this.answers, this.subject);
     this.said = said;
-    showAnswer(byId('answer'), said, (spot) => this.go(spot));
+    this.#say();
     this.#later('spoken', SPEAK_LATER, () => fill(byId('spoken'), `${said.about}: ${said.line}. ${said.sentences[0] ?? said.mistakes[0]?.says ?? ''}`));
     this.#badges();
     this.#foot();
     this.decorate();
     cancelAnimationFrame(this.waiting.get('frame'));
     this.waiting.set('frame', requestAnimationFrame(() => this.draw()));
+  }
+
+  /** The answer; or, where one goes through the records, a sentence about the one that is looked at. */
+  #say() {
+    const { subject, said, step: { selected } } = this;
+    if (!said) return;
+    const step = subject && selected !== null ? subject.trace.steps[selected] : null;
+    const says = step && subject ? sayStep(subject.trace, step) : null;
+    const record = step && subject ? recordLine(step.record, subject.trace.names).trim().replace(/\s+/g, ' ') : '';
+    showAnswer(byId('answer'), said, (spot) => this.go(spot), says === null ? null : { record: `${record}:`, says });
   }
 
   /** @param {Spot} spot */
@@ -166,8 +179,8 @@ class Page {
 
   #foot() {
     const part = this.answers.reading[this.pane];
-    const place = this.pane === 'table' ? 'line' : "record's place in the bytes";
-    const says = part ? `${counted(part.bytes.length, 'byte')}. At the left: the ${place}.` : this.texts[this.pane].trim() === ''
+    const left = this.pane === 'table' ? '' : '; at the left the place of each record';
+    const says = part ? `${counted(part.bytes.length, 'byte')}${left}` : this.texts[this.pane].trim() === ''
       ? `Empty. Begin with the words: krossvil ${this.pane}` : '';
     fill(byId('pane-says'), says);
     byId('run').hidden = !this.answers.reading.stimulus || this.pane === 'table';
@@ -207,24 +220,35 @@ class Page {
   /**
    * How wide a picture is drawn: in large type it is drawn smaller, and then shown as wide.
    * @param {HTMLElement} room
-   * @returns {{width: number, theme: 'light'|'dark'}}
+   * @returns {{width: number, theme: 'light'|'dark', scale: number}}
    */
   #look(room) {
     const style = getComputedStyle(room);
     const width = room.clientWidth - parseFloat(style.paddingLeft) - parseFloat(style.paddingRight);
-    return { width: Math.max(260, Math.round(width / (this.large ? 1.25 : 1))), theme: this.dark ? 'dark' : 'light' };
+    const scale = this.large ? LARGER : 1;
+    return { width: Math.max(260, Math.floor(width / scale)), theme: this.dark ? 'dark' : 'light', scale };
   }
 
   draw() {
     const { subject, answers } = this;
     byId('pictures').classList.toggle('stale', answers.reading.mistakes.length > 0 || answers.tableRefused !== null);
-    byId('pictures').hidden = !answers.decoded && answers.reading.mistakes.length === 0;
     this.#tools();
     if (answers.reading.mistakes.length > 0) return;
     this.reaction.update(answers);
-    for (const id of ['diagram', 'step-says', 'machine']) byId(id).hidden = !subject;
-    for (const room of document.querySelectorAll('.stepping, [aria-labelledby=h-machine]')) room.toggleAttribute('hidden', !subject);
+    for (const room of document.querySelectorAll('#diagram, #machine, .stepping')) room.toggleAttribute('hidden', !subject);
+    this.#placeAutomaton();
+    byId('pictures').hidden = !subject && byId('automaton-below').hidden;
+    byId('reaction-panel').hidden = !answers.decoded;
     this.#drawStep();
+  }
+
+  /** A small automaton stands below the texts, where there are two columns; a large one needs more room. */
+  #placeAutomaton() {
+    const beside = (this.answers.decoded?.counts.states ?? 0) <= BESIDE_MOST && matchMedia('(min-width: 901px)').matches;
+    const slot = byId(beside ? 'automaton-beside' : 'automaton-below');
+    if (byId('automaton').parentElement !== slot) slot.append(byId('automaton'));
+    byId('automaton-beside').hidden = !beside || !this.answers.decoded;
+    byId('automaton-below').hidden = beside || !this.answers.decoded;
   }
 
   /** What changes when one goes to another record. */
@@ -233,16 +257,19 @@ class Page {
     const { selected, stepping } = this.step;
     if (subject) {
       const { trace } = subject;
-      const options = { head: false, selected, step: stepping, narrate: (/** @type {any} */ step) => narrate(trace, step), id: 'page' };
-      show(byId('diagram'), diagram(trace, { ...options, title: this.title, ...this.#look(byId('diagram')) }));
+      const options = { head: false, legend: !stepping, selected, step: stepping, narrate: (/** @type {any} */ step) => narrate(trace, step), id: 'page' };
+      const { scale, ...look } = this.#look(byId('diagram'));
+      show(byId('diagram'), diagram(trace, { ...options, title: this.title, ...look }), scale);
       const step = trace.steps[selected ?? trace.stop ?? trace.steps.length - 1];
       if (step) {
         showMachine(byId('machine'), trace, step);
-        fill(byId('step-says'), selected === null ? '' : sayStep(trace, step));
         this.#where(trace, selected);
       }
     }
-    if (answers.decoded) show(byId('automaton'), automaton(answers.decoded, { lit: this.#lit(), ...this.#look(byId('automaton')) }));
+    if (answers.decoded) {
+      const { scale, ...look } = this.#look(byId('automaton'));
+      show(byId('automaton'), automaton(answers.decoded, { lit: this.#lit(), ...look }), scale);
+    }
   }
 
   /** @param {import('../types.js').Trace} trace @param {number|null} selected */
@@ -274,6 +301,7 @@ class Page {
     const selected = number === null ? null : Math.min(last, Math.max(0, number));
     this.step = { selected, stepping: stepping && selected !== null };
     this.decorate();
+    this.#say();
     const line = selected === null ? 0 : subject.lines[selected];
     if (stepping && line > 0 && this.pane === subject.kind) this.editors[subject.kind].reveal(line);
     if (this.answers.reading.mistakes.length === 0) this.#drawStep();
@@ -344,7 +372,6 @@ class Page {
   /** @param {string} says */
   notice(says) {
     fill(byId('notice'), says);
-    byId('notice').hidden = says === '';
   }
 
   /**

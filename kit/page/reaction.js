@@ -28,7 +28,7 @@ function offered(call) {
 export class ReactionPanel {
   /**
    * @param {Library} library @param {{states: Element, inputs: Element, moves: any, movesRoom: HTMLElement, answer: Element, picture: HTMLElement}} rooms
-   * @param {() => {width: number, theme: 'light'|'dark'}} look
+   * @param {() => {width: number, theme: 'light'|'dark', scale: number}} look
    */
   constructor(library, rooms, look) {
     this.library = library;
@@ -118,6 +118,7 @@ export class ReactionPanel {
       make('p', {}, sayReaction(table, question, said).join(' ')), path && make('p', {}, sayPath(table, path)));
     if (!path) return;
     picture.hidden = false;
-    show(picture, automaton(table, { title: 'The longest way', lit: { path }, ...this.look() }));
+    const { scale, ...look } = this.look();
+    show(picture, automaton(table, { title: 'The longest way', lit: { path }, ...look }), scale);
   }
 }

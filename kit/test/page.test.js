@@ -1,0 +1,322 @@
+/** The page in a browser: typed in, stepped through, given files; it answers as the library does, and asks the network for nothing. */
+
+import assert from 'node:assert/strict';
+import { execFileSync } from 'node:child_process';
+import { after, before, test } from 'node:test';
+import { fileURLToPath } from 'node:url';
+import { acceptanceLine, refusalLine } from '../answers.js';
+import { EXAMPLES } from '../examples.js';
+import { readText, recordsText, tableText } from '../notation.js';
+import { traceJournal } from '../trace.js';
+import { library, sample } from './core.js';
+import { Browser } from './page-browser.js';
+
+const FILE = new URL('../../target/kit/krossvil.html', import.meta.url);
+
+/** @type {Browser} */
+let browser;
+/** @type {import('./page-browser.js').Tab[]} */
+const tabs = [];
+
+before(() => {
+  execFileSync(process.execPath, [fileURLToPath(new URL('../page/build', import.meta.url))]);
+  browser = new Browser();
+});
+
+after(async () => {
+  await browser.close();
+});
+
+/** A tab with an example; what it complained about and asked for is looked at when the test ends. */
+async function open(t, hash, size) {
+  const tab = await browser.open(`${FILE.href}#${hash}`, size);
+  tabs.push(tab);
+  t.after(async () => {
+    assert.deepEqual(tab.complaints, []);
+    assert.deepEqual(tab.requests.filter((url) => url.split('#')[0] !== FILE.href), []);
+    await tab.close();
+  });
+  return tab;
+}
+
+/** The parts of a sample, and the line that the library's answer makes. */
+function expected(name) {
+  const { parts, names } = readText(sample(name));
+  const table = parts.find(({ kind }) => kind === 'table').bytes;
+  const journal = parts.find(({ kind }) => ['journal', 'stamped', 'short'].includes(kind));
+  const checked = library.checkTable(table);
+  if (!checked.ok) return refusalLine(checked);
+  if (!journal) return 'accepted';
+  const trace = traceJournal(library, { table, journal: journal.bytes, form: journal.kind, names });
+  return trace.refused ? refusalLine(trace.refused) : acceptanceLine(trace.answer);
+}
+
+const VERDICT = '#verdict';
+
+/** Puts the caret behind the first place where a pane's text has these words. */
+async function caretBehind(tab, pane, words) {
+  await tab.click(`#tab-${pane}`);
+  await tab.value(`(() => { const field = document.querySelector('#pane-${pane} textarea'); field.focus();
+    const at = field.value.indexOf(${JSON.stringify(words)}) + ${words.length}; field.setSelectionRange(at, at); })()`);
+}
+
+async function setPane(tab, pane, text) {
+  await tab.value(`(() => { const field = document.querySelector('#pane-${pane} textarea'); field.value = ${JSON.stringify(text)};
+    field.dispatchEvent(new Event('input', { bubbles: true })); })()`);
+  await tab.frames();
+}
+
+/** Drops files on the page, as bytes. */
+async function drop(tab, files) {
+  await tab.value(`(() => { const carried = new DataTransfer();
+    for (const [name, bytes] of ${JSON.stringify(files.map(([name, bytes]) => [name, [...bytes]]))}) carried.items.add(new File([new Uint8Array(bytes)], name));
+    document.body.dispatchEvent(new DragEvent('drop', { dataTransfer: carried, bubbles: true, cancelable: true })); })()`);
+  await tab.until(`document.getElementById('notice').textContent.includes(${JSON.stringify(files[0][0])})`);
+  await tab.frames();
+}
+
+const paneText = (tab, pane) => tab.value(`document.querySelector('#pane-${pane} textarea').value`);
+
+test('every example opens with the answer of the library', async (t) => {
+  const tab = await open(t, 'example=classroom');
+  for (const { name } of EXAMPLES) {
+    await tab.value(`(() => { const list = document.getElementById('examples'); list.value = ${JSON.stringify(name)}; list.dispatchEvent(new Event('change')); })()`);
+    await tab.frames();
+    assert.equal(await tab.text(VERDICT), expected(name), name);
+    const rings = await tab.value("document.querySelector('#pictures').hidden ? null : document.querySelectorAll('#diagram:not([hidden]) .refused-record').length");
+    if (rings !== null) assert.equal(rings, expected(name).startsWith('refused') ? 1 : 0, name);
+    assert.equal(await tab.value('location.hash'), `#example=${name}`);
+  }
+});
+
+test('the answer follows each key', async (t) => {
+  const tab = await open(t, 'example=changed-verdict');
+  assert.equal(await tab.text(VERDICT), 'refused 28 at 76');
+  assert.match(await tab.text('#answer'), /8 - 3 = 5 is not more than 5/);
+  assert.equal(await tab.text('#pane-journal .number.refused'), '76');
+  await caretBehind(tab, 'journal', ' 8  test   free');
+  for (const _ of 'free') await tab.key('Backspace');
+  assert.match(await tab.text(VERDICT), /mistake/);
+  await tab.type('hel');
+  assert.match(await tab.text('#answer'), /Journal, line 12: .*did you mean 'held'/);
+  await tab.type('d');
+  assert.equal(await tab.text(VERDICT), expected('classroom'));
+  await tab.until("document.getElementById('spoken').textContent.includes('accepted')");
+});
+
+test('a mistake is shown at its line, and a click goes there', async (t) => {
+  const tab = await open(t, 'example=classroom');
+  await caretBehind(tab, 'table', 'start   idle');
+  await tab.type('x');
+  assert.match(await tab.text('#answer'), /Table, line 5: there is no state 'idlex'; did you mean 'idle'\?/);
+  assert.equal(await tab.text('#pane-table .number.mistake'), '5');
+  await tab.click('#tab-journal');
+  await tab.click('.mistakes button');
+  assert.equal(await tab.value("document.activeElement.closest('.editor')?.id"), 'pane-table');
+  await tab.key('End');
+  await tab.key('Backspace');
+  await tab.click('#tab-journal');
+  assert.equal(await tab.text(VERDICT), expected('classroom'));
+});
+
+test('arrow keys step through the records and light the machine', async (t) => {
+  const tab = await open(t, 'example=classroom');
+  await tab.value('document.activeElement.blur()');
+  const lit = () => tab.value("[...document.querySelectorAll('#automaton .state.lit')].map((state) => state.dataset.state).join()");
+  const changed = () => tab.value("[...document.querySelectorAll('#machine .changed dt')].map((name) => name.textContent)");
+  await tab.key('ArrowRight');
+  assert.match(await tab.text('#where'), /^record 0 of 15, byte 0$/);
+  assert.equal(await lit(), '0');
+  await tab.key('ArrowRight');
+  assert.deepEqual(await changed(), ['input at the sensor', 'last change']);
+  for (let k = 0; k < 3; k++) await tab.key('ArrowRight');
+  assert.match(await tab.text('#step-says'), /3 tick busy: From 'idle' input 'train' leads to 'busy', entered at 3\./);
+  assert.equal(await lit(), '1');
+  assert.equal(await tab.value("document.querySelectorAll('#automaton .edge.lit').length"), 1);
+  assert.equal(await tab.text('#pane-journal .number.current'), '28');
+  assert.equal(await tab.value("document.querySelector('#diagram .selected-record').dataset.record"), '4');
+  await tab.key('ArrowLeft');
+  assert.match(await tab.text('#where'), /^record 3 /);
+  await tab.key('End');
+  assert.match(await tab.text('#where'), /^record 15 /);
+  await tab.press('#back');
+  assert.match(await tab.text('#where'), /^record 14 /);
+  await tab.key('Escape');
+  assert.equal(await tab.text('#where'), '16 records');
+});
+
+test('the caret and the diagram choose a record', async (t) => {
+  const tab = await open(t, 'example=classroom');
+  await caretBehind(tab, 'journal', ' 5  test');
+  await tab.key('ArrowDown');
+  assert.match(await tab.text('#where'), /^record 8 of 15, byte 60$/);
+  await tab.value("document.querySelector('#diagram [data-record=\"10\"]').dispatchEvent(new MouseEvent('click', { bubbles: true }))");
+  assert.match(await tab.text('#where'), /^record 10 of 15, byte 76$/);
+});
+
+test('a stimulus is run, and that can be undone', async (t) => {
+  const tab = await open(t, 'example=changed-verdict');
+  await tab.click('#tab-stimulus');
+  assert.match(await tab.text('#answer'), /The stimulus can be run/);
+  const old = await paneText(tab, 'journal');
+  await tab.click('#run');
+  assert.equal(await tab.text(VERDICT), expected('classroom'));
+  assert.equal(await tab.value("document.getElementById('tab-journal').getAttribute('aria-selected')"), 'true');
+  await tab.click('#undo');
+  assert.equal(await paneText(tab, 'journal'), old);
+  await tab.click('#tab-stimulus');
+  await caretBehind(tab, 'stimulus', ' 2  test\n 3  tick\n');
+  await tab.type('3 tick\n');
+  assert.match(await tab.text(VERDICT), /^refused 26 at /);
+  assert.equal(await tab.value("document.getElementById('run').disabled"), true);
+});
+
+test('files are dropped, as bytes and as text', async (t) => {
+  const tab = await open(t, 'example=watchdog');
+  const { parts, names } = readText(sample('changed-verdict'));
+  const bytes = (kind) => parts.find((part) => part.kind === kind).bytes;
+  await drop(tab, [['a.journal', bytes('journal')], ['a.table', bytes('table')]]);
+  assert.equal(await tab.text(VERDICT), 'refused 28 at 76');
+  assert.match(await paneText(tab, 'stimulus'), /change i1/, 'the old stimulus, in the words of the new table');
+  assert.equal(await paneText(tab, 'table'), tableText(bytes('table')));
+  assert.equal(await paneText(tab, 'journal'), recordsText(bytes('journal'), 'journal', { states: ['q0', 'q1'], inputs: ['i0', 'i1'], outputs: ['o0', 'o1'], timers: [] }));
+  await drop(tab, [['classroom.kv', Buffer.from(sample('classroom'))]]);
+  assert.equal(await tab.text(VERDICT), expected('classroom'));
+  await drop(tab, [['again.journal', bytes('journal')]]);
+  assert.equal(await paneText(tab, 'journal'), recordsText(bytes('journal'), 'journal', names));
+});
+
+test('any bytes that are dropped give an answer, and come back as they were', async (t) => {
+  const tab = await open(t, 'example=classroom');
+  const wild = [[], [0x10], [0x20, 0, 1, 9, 0x2f], [0x30, 0, 1], [0xff, 0xfe, 0], Array.from({ length: 70000 }, (_, k) => (k * 7919) % 256), [0x10, 0, 1, 0, ...Array(66000).fill(0x11)]];
+  for (const [k, bytes] of wild.entries()) {
+    await drop(tab, [[`wild${k}`, bytes]]);
+    const given = Uint8Array.from(bytes);
+    const text = (await paneText(tab, 'table')) + (await paneText(tab, 'stimulus')) + (await paneText(tab, 'journal'));
+    const back = readText(text).parts.some((part) => Buffer.compare(part.bytes, given) === 0);
+    assert.ok(back, `file ${k}`);
+    assert.match(await tab.text(VERDICT), /^(refused \d+ at \d+|accepted.*)$/);
+  }
+});
+
+test('a torn journal is salvaged, short and stamped ones are written out, an old table is converted', async (t) => {
+  const tab = await open(t, 'example=torn-journal');
+  await tab.click('#tool-salvage');
+  assert.match(await tab.text('#tool-answer'), /The first 92 bytes are kept/);
+  await tab.click('#tool-put');
+  assert.match(await tab.text(VERDICT), /^accepted end=9 /);
+  await tab.click('#tool-shorten');
+  await tab.click('#tool-put');
+  assert.match(await paneText(tab, 'journal'), /^krossvil short journal\n/);
+  assert.match(await tab.text(VERDICT), /^accepted end=9 /);
+  await tab.click('#tool-lengthen');
+  await tab.click('#tool-put');
+  assert.match(await paneText(tab, 'journal'), /^krossvil journal\n/);
+  await tab.go(`${FILE.href}#example=stamped-journal`);
+  await tab.until("document.getElementById('examples').value === 'stamped-journal'");
+  await tab.frames();
+  await tab.click('#tool-unstamp');
+  await tab.click('#tool-put');
+  assert.equal(await tab.text(VERDICT), expected('stamped-journal'));
+  assert.match(await paneText(tab, 'journal'), /^krossvil journal\n/);
+  await tab.go(`${FILE.href}#example=old-table`);
+  await tab.until("document.getElementById('examples').value === 'old-table'");
+  await tab.frames();
+  await tab.click('#tool-convert');
+  await tab.click('#tool-put');
+  assert.equal(await tab.text(VERDICT), 'accepted');
+});
+
+test('a journal is compared with its own run', async (t) => {
+  const tab = await open(t, 'example=quarry');
+  await tab.click('#tool-compare');
+  assert.match(await tab.text('#tool-answer'), /2 records of the journal differ.*The test at 10 says free; in the run it is held\./s);
+});
+
+test('a reaction time is asked for by names', async (t) => {
+  const tab = await open(t, 'example=stutter-filter');
+  const { parts } = readText(sample('stutter-filter'));
+  const { bytes } = parts[0];
+  assert.match(await tab.text('#reaction-answer'), new RegExp(`at most ${library.reaction(bytes, 3, 1).time}`));
+  await tab.click('#reaction-inputs input[data-member="0"]');
+  await tab.click('#reaction-inputs input[data-member="1"]');
+  assert.match(await tab.text('#reaction-answer'), new RegExp(`at most ${library.reaction(bytes, 3, 2).time}until: q0`));
+  await tab.click('#reaction-states input[data-member="0"]');
+  assert.match(await tab.text('#reaction-answer'), /^refused 10 at \d+The states do not hold together/);
+});
+
+test('the link carries the texts, and a broken one does no harm', async (t) => {
+  const tab = await open(t, 'example=changed-verdict');
+  await caretBehind(tab, 'journal', 'krossvil journal');
+  await tab.type(' # mine');
+  await tab.until("location.hash.startsWith('#packed=')");
+  await tab.click('#link');
+  const link = await tab.value("document.getElementById('link-text').value");
+  await tab.click('#link-close');
+  const other = await open(t, link.split('#')[1]);
+  assert.match(await paneText(other, 'journal'), /^krossvil journal # mine\n/);
+  assert.equal(await other.text(VERDICT), 'refused 28 at 76');
+  for (const hash of ['packed=AAAA', 'packed=***', 'text=%%', 'example=<img src=x onerror=alert(1)>', 'text=PGltZyBzcmM9eD4']) {
+    const broken = await open(t, hash);
+    assert.notEqual(await broken.text(VERDICT), null, hash);
+  }
+});
+
+const HOSTILE = '<img src=x onerror="window.harm=1">';
+
+test('hostile names are shown and do no harm', async (t) => {
+  const tab = await open(t, 'example=classroom');
+  const names = [`<script>window.harm=1</script>`, `</textarea><b>`, `a&amp;'b`, `${'x'.repeat(60)}`];
+  for (const name of names) {
+    const text = sample('classroom').replaceAll('busy', `"${name}"`).replaceAll('no_train', `"${name}2"`);
+    const [table, , journal] = text.split(/(?=^krossvil )/m);
+    await setPane(tab, 'table', table);
+    await setPane(tab, 'journal', journal);
+    await setPane(tab, 'stimulus', '');
+    assert.equal(await tab.text(VERDICT), expected('classroom'), name);
+    await tab.click('#first');
+    for (let k = 0; k < 6; k++) await tab.click('#next');
+    assert.ok((await tab.text('#machine')).includes(name), name);
+  }
+  for (const wrong of [HOSTILE, '\u202Egnorw', 'a\u0000b', '"\u2066"']) {
+    await setPane(tab, 'table', `krossvil table\n${wrong}\n`);
+    assert.match(await tab.text(VERDICT), /mistake/);
+    assert.ok(!/[\u0000\u202e\u2066]/.test(await tab.text('#answer')), 'no hidden characters');
+  }
+  await drop(tab, [[`${HOSTILE}.kv`, Buffer.from(sample('classroom'))]]);
+  assert.equal(await tab.value('window.harm ?? 0'), 0);
+  assert.equal(await tab.value("document.querySelectorAll('img, main script').length"), 0);
+});
+
+test('it fits a projector and a phone, in both sizes of type', async (t) => {
+  for (const size of [{ width: 1280, height: 800 }, { width: 390, height: 844, phone: true }, { width: 320, height: 640, phone: true }]) {
+    const tab = await open(t, 'example=changed-verdict', size);
+    const wide = () => tab.value('document.documentElement.scrollWidth - innerWidth');
+    assert.ok(await wide() <= 0, `${size.width}`);
+    await tab.click('#large');
+    assert.ok(await wide() <= 0, `${size.width}, large`);
+    assert.ok(await tab.value("document.querySelector('#diagram svg').getBoundingClientRect().width <= innerWidth"));
+  }
+});
+
+test('on a projector the answer, the text, the diagram, the machine and the automaton are in sight while one steps', async (t) => {
+  const tab = await open(t, 'example=changed-verdict', { width: 1280, height: 800 });
+  for (let k = 0; k < 5; k++) await tab.click('#next');
+  const bottoms = await tab.value("['#answer', '.number.current', '#diagram', '#machine', '#automaton'].map((each) => document.querySelector(each).getBoundingClientRect().bottom)");
+  assert.ok(Math.max(...bottoms) <= 800, bottoms.join());
+});
+
+test('every control can be reached by the keyboard and has a name', async (t) => {
+  const tab = await open(t, 'example=changed-verdict');
+  const { nodes } = await tab.send('Accessibility.getFullAXTree');
+  const controls = nodes.filter(({ role, ignored }) => !ignored && ['button', 'textbox', 'combobox', 'tab', 'checkbox', 'spinbutton'].includes(role?.value));
+  assert.ok(controls.length > 15);
+  for (const node of controls) assert.notEqual(node.name?.value ?? '', '', JSON.stringify(node));
+  const reached = new Set();
+  await tab.value('document.activeElement.blur()');
+  for (let k = 0; k < 40; k++) {
+    await tab.key('Tab');
+    reached.add(await tab.value("document.activeElement.id || document.activeElement.closest('[id]')?.id"));
+  }
+  for (const id of ['examples', 'open', 'link', 'large', 'tab-journal', 'pane-journal', 'run', 'go', 'tool-compare', 'reaction-states', 'first', 'next']) assert.ok(reached.has(id), `${id} of ${[...reached]}`);
+});
