@@ -23,7 +23,7 @@ export function make(tag, attributes = {}, ...children) {
     if (typeof value === 'function') element.addEventListener(name.slice(2), value);
     else if (value !== null && value !== undefined && value !== false) element.setAttribute(name, value === true ? '' : String(value));
   }
-  fill(element, children);
+  fill(element, ...children);
   return element;
 }
 

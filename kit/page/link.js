@@ -2,6 +2,12 @@
 
 import { TEXT_MAX } from '../notation.js';
 
+/**
+ * Compression, where the browser has it; without it links are longer.
+ * @type {any}
+ */
+const streams = globalThis;
+
 /** @param {Uint8Array} bytes */
 function toBase64(bytes) {
   let binary = '';
@@ -44,8 +50,8 @@ async function through(bytes, stream) {
  */
 export async function toHash(text) {
   const bytes = new TextEncoder().encode(text);
-  if (!('CompressionStream' in globalThis)) return `text=${toBase64(bytes)}`;
-  return `packed=${toBase64(await through(bytes, new CompressionStream('deflate-raw')))}`;
+  if (!streams.CompressionStream) return `text=${toBase64(bytes)}`;
+  return `packed=${toBase64(await through(bytes, new streams.CompressionStream('deflate-raw')))}`;
 }
 
 /**
@@ -58,7 +64,7 @@ export async function fromHash(hash) {
   if (!key) return null;
   try {
     const bytes = fromBase64(value);
-    return { text: new TextDecoder().decode(key === 'text' ? bytes : await through(bytes, new DecompressionStream('deflate-raw'))) };
+    return { text: new TextDecoder().decode(key === 'text' ? bytes : await through(bytes, new streams.DecompressionStream('deflate-raw'))) };
   } catch {
     return null;
   }

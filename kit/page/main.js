@@ -76,6 +76,7 @@ class Page {
   /** Something was typed: the answer comes at once, pictures with the next frame. */
   #typed() {
     byId('examples').value = '';
+    this.notice('');
     this.step = { selected: null, stepping: false };
     this.answer();
     this.#later('link', LINK_LATER, () => this.#carry());
@@ -135,7 +136,7 @@ class Page {
   /** Asks the library about all texts, and shows what it says. */
   answer() {
     this.answers = ask(this.library, this.texts);
-    this.subject = subjectOf(this.answers, this.pane);
+    this.subject = this.answers.reading.mistakes.length > 0 ? null : subjectOf(this.answers, this.pane);
     const said = sayAnswer(this.answers, this.subject);
     this.said = said;
     this.#say();
@@ -153,6 +154,7 @@ class Page {
     if (!said) return;
     const step = subject && selected !== null ? subject.trace.steps[selected] : null;
     const says = step && subject ? sayStep(subject.trace, step) : null;
+    fill(byId('step-short'), step ? says ?? said.sentences.join(' ') : '');
     const record = step && subject ? recordLine(step.record, subject.trace.names).trim().replace(/\s+/g, ' ') : '';
     showAnswer(byId('answer'), said, (spot) => this.go(spot), says === null ? null : { record: `${record}:`, says });
   }
@@ -231,9 +233,13 @@ class Page {
 
   draw() {
     const { subject, answers } = this;
-    byId('pictures').classList.toggle('stale', answers.reading.mistakes.length > 0 || answers.tableRefused !== null);
+    const stale = answers.reading.mistakes.length > 0;
+    for (const room of document.querySelectorAll('#pictures, #automaton-beside, #reaction-panel')) room.classList.toggle('stale', stale);
     this.#tools();
-    if (answers.reading.mistakes.length > 0) return;
+    if (stale) {
+      for (const button of document.querySelectorAll('.stepping button')) button.toggleAttribute('disabled', true);
+      return;
+    }
     this.reaction.update(answers);
     for (const room of document.querySelectorAll('#diagram, #machine, .stepping')) room.toggleAttribute('hidden', !subject);
     this.#placeAutomaton();
@@ -424,6 +430,7 @@ class Page {
     byId('link-text').value = `${address}#${await toHash(joinTexts(this.texts))}`;
     byId('link-box').showModal();
     byId('link-text').select();
+    byId('link-text').scrollTop = 0;
   }
 
   /** Pictures depend on width, size of type and colours. */
@@ -438,7 +445,8 @@ class Page {
 
   saveMenu() {
     const { texts, answers, subject, title, dark } = this;
-    const state = { texts, answers, subject, title, selected: this.step.selected, theme: /** @type {const} */ (dark ? 'dark' : 'light') };
+    /** @type {import('./saving.js').State} */
+    const state = { texts, answers, subject, title, selected: this.step.selected, theme: dark ? 'dark' : 'light' };
     fill(byId('save-list'), ...SAVINGS.map((saving) => make('button', {
       type: 'button', disabled: !saving.can(state), onclick: () => {
         saving.save(state);
@@ -505,7 +513,10 @@ function listenToTabs(page) {
   }
 }
 
-/** Arrow keys step where they have no other use. @param {Page} page */
+/**
+ * Arrow keys step where they have no other use.
+ * @param {Page} page
+ */
 function listenToKeys(page) {
   const moves = new Map([['ArrowRight', () => page.move(1)], ['ArrowLeft', () => page.move(-1)], ['Home', () => page.select(0)],
     ['End', () => page.select(Infinity)], ['Escape', () => page.select(null)]]);

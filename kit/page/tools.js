@@ -137,7 +137,10 @@ function run(library, answers) {
   return { sentences: [], made: journal(answers, answer.bytes, 'journal', 'run.journal') };
 }
 
-/** Fills the journal with the run of the stimulus. @type {Tool} */
+/**
+ * Fills the journal with the run of the stimulus.
+ * @type {Tool}
+ */
 export const RUN = {
   id: 'run', label: 'Run the stimulus', says: '', use: run, fits: ({ stimulus }) => stimulus !== null && !stimulus.trace.refused,
 };
@@ -147,7 +150,7 @@ export const TOOLS = [
   { id: 'compare', label: 'Compare with the run', says: 'Every record that differs from the run of the same inputs and times, not only the first.',
     fits: ({ journal: subject }) => subject !== null, use: compare },
   { id: 'salvage', label: 'Salvage', says: 'What is sound of a torn journal, up to its last tick, with an end.',
-    fits: ({ journal: subject }) => subject?.trace.refused !== null && (subject?.trace.form === 'journal' || subject?.trace.long !== null) && subject !== null,
+    fits: ({ journal: subject }) => subject !== null && subject.trace.refused !== null && (subject.trace.form === 'journal' || subject.trace.long !== null),
     use: salvage },
   { id: 'unstamp', label: 'Write out the stamps', says: 'The long journal of one whose times are stamps of 16 bits.',
     fits: isForm('stamped'), use: rewriting((library, _, given) => library.readStamped(given), 'journal', 'The stamps are written out as times.', 'unstamped.journal') },

@@ -87,8 +87,8 @@ export function readPanes(texts) {
   });
   const text = readText(all.join('\n'));
   const place = (/** @type {number} */ line) => {
-    const k = starts.findLastIndex((start) => start < line);
-    return { pane: PANES[Math.max(0, k)], line: line - starts[Math.max(0, k)] };
+    const k = Math.max(0, starts.filter((start) => start < line).length - 1);
+    return { pane: PANES[k], line: line - starts[k] };
   };
   const said = headless.length > 0 && text.parts.length === 0 && all.every((line) => line.trim() === '') ? [] : text.mistakes;
   const mistakes = [...headless, ...said.map((mistake) => ({ ...mistake, ...place(mistake.line) }))];
