@@ -313,6 +313,15 @@ class Page {
     if (this.answers.reading.mistakes.length === 0) this.#drawStep();
   }
 
+  /**
+   * The first record from this time on.
+   * @param {number} time
+   */
+  selectTime(time) {
+    const number = this.subject?.trace.steps.findIndex(({ record }) => record.time >= time) ?? -1;
+    if (number >= 0) this.select(number);
+  }
+
   /** @param {number} by */
   move(by) {
     const { selected } = this.step;
@@ -514,6 +523,15 @@ function listenToTabs(page) {
 }
 
 /**
+ * The time at a place on the strip that shows a whole long journal.
+ * @param {any} strip @param {number} x
+ */
+function timeOnStrip(strip, x) {
+  const { left, width } = strip.querySelector('rect').getBoundingClientRect();
+  return Number(strip.dataset.to) * Math.min(1, Math.max(0, (x - left) / width));
+}
+
+/**
  * Arrow keys step where they have no other use.
  * @param {Page} page
  */
@@ -530,7 +548,9 @@ function listenToKeys(page) {
   });
   byId('diagram').addEventListener('click', (/** @type {any} */ event) => {
     const record = event.target.closest('[data-record]');
+    const strip = event.target.closest('.overview');
     if (record) page.select(Number(record.dataset.record));
+    else if (strip) page.selectTime(timeOnStrip(strip, event.clientX));
   });
   document.addEventListener('click', (/** @type {any} */ event) => {
     if (!event.target.closest('#save')) byId('save').open = false;
