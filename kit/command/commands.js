@@ -1,16 +1,5 @@
 /** All commands: what each is given, does and says. The help, the manual page and the completion are made of this list. */
 
-import { check } from './check.js';
-import { convert, long, run, salvage, short, unstamp } from './conversions.js';
-import { dwell } from './dwell.js';
-import { bytes, text } from './notation.js';
-import { page } from './page.js';
-import { draw, picture, wave } from './pictures.js';
-import { react } from './react.js';
-import { compare, explain, left } from './records.js';
-
-/** @typedef {import('./asking.js').Asking} Asking */
-
 /**
  * @typedef {Object} Command
  * @property {'in class'|'in the yard'|'at the desk'} group
@@ -21,7 +10,7 @@ import { compare, explain, left } from './records.js';
  * @property {string[]} options    besides those that every command takes
  * @property {boolean} [writes]    without -o what it makes goes to the standard output
  * @property {[string, string][]} examples   a line to type, and what it does
- * @property {(asking: Asking) => number} act   the exit code
+ * @property {() => Promise<any>} module   what it does is exported there under the command's name, and gives the exit code
  */
 
 const ANY = Infinity;
@@ -30,7 +19,7 @@ const PICTURE = ['title', 'width', 'dark'];
 /** @type {Record<string, Command>} */
 export const COMMANDS = {
   check: {
-    group: 'in class', files: 'TABLE [JOURNAL...]', count: [1, ANY], options: ['as'], act: check,
+    group: 'in class', files: 'TABLE [JOURNAL...]', count: [1, ANY], options: ['as'], module: () => import('./check.js'),
     says: 'is each journal a run of the table? if not, why not',
     more: ["The first line is the proved checker's: accepted with its numbers, or refused with the number and the byte.",
       'Without a journal, the one in the text of the table is checked; if there is none, the table alone.'],
@@ -42,20 +31,20 @@ export const COMMANDS = {
     ],
   },
   explain: {
-    group: 'in class', files: 'TABLE [JOURNAL]', count: [1, 2], options: ['as'], act: explain,
+    group: 'in class', files: 'TABLE [JOURNAL]', count: [1, 2], options: ['as'], module: () => import('./records.js'),
     says: 'every record in a sentence',
     more: ['Each record up to the end, or to the one that is refused: its byte, its line, and why it is so.'],
     examples: [['krossvil explain classroom.kv', 'why each test is held or free']],
   },
   compare: {
-    group: 'in class', files: 'TABLE [JOURNAL]', count: [1, 2], options: ['as'], act: compare,
+    group: 'in class', files: 'TABLE [JOURNAL]', count: [1, 2], options: ['as'], module: () => import('./records.js'),
     says: 'every record that differs from the run',
     more: ['What the controller found by itself is stripped from the journal, the proved runtime runs the stimulus that is left, and each record '
       + 'that differs is shown, not only the first.'],
     examples: [['krossvil compare quarry.kv', 'two records of the quarry are wrong']],
   },
   run: {
-    group: 'in class', files: 'TABLE [STIMULUS]', count: [1, 2], options: ['output'], act: run, writes: true,
+    group: 'in class', files: 'TABLE [STIMULUS]', count: [1, 2], options: ['output'], module: () => import('./conversions.js'), writes: true,
     says: 'the journal that the machine writes',
     more: ['With -o FILE.kv as text, with any other ending as bytes; without -o the text is printed.'],
     examples: [
@@ -64,7 +53,7 @@ export const COMMANDS = {
     ],
   },
   picture: {
-    group: 'in class', files: 'TABLE [JOURNAL]', count: [1, 2], options: ['output', 'as', ...PICTURE, 'begin', 'until'], act: picture, writes: true,
+    group: 'in class', files: 'TABLE [JOURNAL]', count: [1, 2], options: ['output', 'as', ...PICTURE, 'begin', 'until'], module: () => import('./pictures.js'), writes: true,
     says: 'the timing diagram (.svg .png .pdf)',
     more: ['The refused record is ringed in red, and the sentences stand below. .png and .pdf need the package librsvg2-bin.'],
     examples: [
@@ -73,7 +62,7 @@ export const COMMANDS = {
     ],
   },
   draw: {
-    group: 'in class', files: 'TABLE', count: [1, 1], options: ['output', ...PICTURE, 'graphviz'], act: draw, writes: true,
+    group: 'in class', files: 'TABLE', count: [1, 1], options: ['output', ...PICTURE, 'graphviz'], module: () => import('./pictures.js'), writes: true,
     says: 'the automaton (.svg .png .pdf .dot)',
     more: ['.png and .pdf need the package librsvg2-bin, --graphviz needs graphviz.'],
     examples: [
@@ -82,13 +71,13 @@ export const COMMANDS = {
     ],
   },
   page: {
-    group: 'in class', files: '[TABLE [JOURNAL] [STIMULUS]]', count: [0, 3], options: ['output', 'title'], act: page, writes: true,
+    group: 'in class', files: '[TABLE [JOURNAL] [STIMULUS]]', count: [0, 3], options: ['output', 'title'], module: () => import('./page.js'), writes: true,
     says: 'the live page with these files inside, one HTML file',
     more: ['It works from a folder, without a network: edit, step through the records, see the answer at each keystroke.'],
     examples: [['krossvil page quarry.kv -o quarry.html', 'open quarry.html in a browser']],
   },
   text: {
-    group: 'in class', files: 'FILE...', count: [1, 5], options: ['output', 'as'], act: text, writes: true,
+    group: 'in class', files: 'FILE...', count: [1, 5], options: ['output', 'as'], module: () => import('./notation.js'), writes: true,
     says: 'bytes as text (any bytes)',
     more: ['Several files become one text, each with the names of the table among them. Any bytes have a text that gives them back.'],
     examples: [
@@ -97,46 +86,46 @@ export const COMMANDS = {
     ],
   },
   bytes: {
-    group: 'in class', files: 'TEXT', count: [1, 1], options: ['output', 'as'], act: bytes, writes: true,
+    group: 'in class', files: 'TEXT', count: [1, 1], options: ['output', 'as'], module: () => import('./notation.js'), writes: true,
     says: 'text as bytes (broken ones too)',
     more: ['Nothing is judged: what the text says is written. A mistake in the text is shown with its line and column.'],
     examples: [['krossvil bytes classroom.kv --as journal -o journal.bin', 'the journal of the text']],
   },
   left: {
-    group: 'in the yard', files: 'TABLE [JOURNAL]', count: [1, 2], options: ['as'], act: left,
+    group: 'in the yard', files: 'TABLE [JOURNAL]', count: [1, 2], options: ['as'], module: () => import('./records.js'),
     says: 'what holds at the end of the journal, and for how long',
     more: ['If the journal is refused, what holds at the end of what was accepted.'],
     examples: [['krossvil left torn-journal.kv', 'the state, its entry, and from when on it can be left']],
   },
   salvage: {
-    group: 'in the yard', files: 'TABLE [JOURNAL]', count: [1, 2], options: ['output'], act: salvage, writes: true,
+    group: 'in the yard', files: 'TABLE [JOURNAL]', count: [1, 2], options: ['output'], module: () => import('./conversions.js'), writes: true,
     says: 'what is sound of a torn journal',
     more: ['What is kept ends with the last sound tick and is closed, so that it is accepted.'],
     examples: [['krossvil salvage torn-journal.kv -o saved.bin', 'how many bytes are kept, and what stopped it']],
   },
   short: {
-    group: 'in the yard', files: 'TABLE [JOURNAL]', count: [1, 2], options: ['output'], act: short, writes: true,
+    group: 'in the yard', files: 'TABLE [JOURNAL]', count: [1, 2], options: ['output'], module: () => import('./conversions.js'), writes: true,
     says: 'a journal as a short journal', more: ['A short journal has gaps in the place of times, and six bytes for a record instead of eight.'],
     examples: [['krossvil short classroom.kv -o short.bin', 'for a memory card that fills']],
   },
   long: {
-    group: 'in the yard', files: 'TABLE [SHORT]', count: [1, 2], options: ['output'], act: long, writes: true,
+    group: 'in the yard', files: 'TABLE [SHORT]', count: [1, 2], options: ['output'], module: () => import('./conversions.js'), writes: true,
     says: 'a short journal as a journal', more: ['It is the journal that the short one stands for.'],
     examples: [['krossvil long short-journal.kv', 'prints the journal']],
   },
   unstamp: {
-    group: 'in the yard', files: '[TABLE] STAMPED', count: [1, 2], options: ['output'], act: unstamp, writes: true,
+    group: 'in the yard', files: '[TABLE] STAMPED', count: [1, 2], options: ['output'], module: () => import('./conversions.js'), writes: true,
     says: 'a journal with stamps of 16 bits as a journal', more: ['The table is not needed; it gives the names.'],
     examples: [['krossvil unstamp stamped-journal.kv', 'prints the journal with its times']],
   },
   convert: {
-    group: 'in the yard', files: 'TABLE', count: [1, 1], options: ['output'], act: convert, writes: true,
+    group: 'in the yard', files: 'TABLE', count: [1, 1], options: ['output'], module: () => import('./conversions.js'), writes: true,
     says: 'a table that an older check let pass, as it passes now',
     more: ['Inputs that are delayed in a state without a hold, which never had an effect, are taken out.'],
     examples: [['krossvil convert old-table.kv -o table.bin', 'how many states were changed']],
   },
   dwell: {
-    group: 'in the yard', files: 'TABLE [JOURNAL...]', count: [1, ANY], options: ['output', 'as', ...PICTURE], act: dwell,
+    group: 'in the yard', files: 'TABLE [JOURNAL...]', count: [1, ANY], options: ['output', 'as', ...PICTURE], module: () => import('./dwell.js'),
     says: 'where the time went, over up to 1,000 journals (plot: .svg .png .pdf)',
     more: ['--plain gives the lines of the program `dwell`, which a spreadsheet reads. A journal that is refused is said, and not counted.'],
     examples: [
@@ -145,7 +134,7 @@ export const COMMANDS = {
     ],
   },
   react: {
-    group: 'at the desk', files: 'TABLE', count: [1, 1], options: ['from', 'while', 'moves', 'tight'], act: react,
+    group: 'at the desk', files: 'TABLE', count: [1, 1], options: ['from', 'while', 'moves', 'tight'], module: () => import('./react.js'),
     says: 'the reaction time: --from STATES --while INPUTS',
     more: ['While the state is one of STATES and the input one of INPUTS: after how long at most is the state one of the target, and which is that?',
       'A name with a comma or a blank stands in quotation marks, and so that the shell keeps them, the whole in apostrophes.'],
@@ -156,7 +145,7 @@ export const COMMANDS = {
     ],
   },
   wave: {
-    group: 'at the desk', files: 'TABLE [JOURNAL]', count: [1, 2], options: ['output', 'as', 'unit'], act: wave, writes: true,
+    group: 'at the desk', files: 'TABLE [JOURNAL]', count: [1, 2], options: ['output', 'as', 'unit'], module: () => import('./pictures.js'), writes: true,
     says: 'a .vcd file for GTKWave', more: ['Names, numbers, phases and events as signals; `refused` rises where the journal is refused.'],
     examples: [['krossvil wave classroom.kv -o classroom.vcd', 'then: gtkwave classroom.vcd']],
   },

@@ -1,13 +1,14 @@
 /** The world outside: files, the streams, other programs. Tests put another in its place. */
 
-import { spawnSync } from 'node:child_process';
 import { closeSync, openSync, readSync, writeFileSync } from 'node:fs';
+import { createRequire } from 'node:module';
 import { getSystemErrorMessage } from './system-errors.js';
 import { Trouble } from './trouble.js';
 
 /**
  * @typedef {Object} Io
- * @property {(path: string, limit: number) => Uint8Array} read      `-` is the standard input; no more than the limit is read
+ * @property {(path: string, limit: number) => Uint8Array} read      `-` is the standard input; no more than the limit is read, and what was
+ *                                                                   read may be written over by the next reading
  * @property {(path: string, data: Uint8Array|string) => void} write
  * @property {(data: Uint8Array|string) => void} print               to the standard output
  * @property {(text: string) => void} complain                       to the standard error
@@ -18,27 +19,26 @@ import { Trouble } from './trouble.js';
  * @property {number} columns                                        of the terminal
  */
 
-const CHUNK = 1 << 16;
+/** Longer than any journal, so that most files fit; it is used again and again, which is much faster than memory that is new. */
+const ROOM = Buffer.alloc(70000);
 
 /**
  * @param {number} file @param {number} limit
  */
 function readUpTo(file, limit) {
-  const chunks = [];
+  let room = ROOM;
   let length = 0;
-  while (length < limit) {
-    const chunk = Buffer.allocUnsafe(Math.min(CHUNK + 1, limit - length));
-    const count = readSome(file, chunk);
-    if (count === 0) break;
-    chunks.push(chunk.subarray(0, count));
+  for (;;) {
+    const count = readSome(file, room.subarray(length, limit));
     length += count;
+    if (count === 0 || length >= limit) return room.subarray(0, length);
+    if (length === room.length) room = Buffer.concat([room, Buffer.alloc(room.length)]);
   }
-  return chunks.length === 1 ? chunks[0] : Buffer.concat(chunks);
 }
 
 /**
  * A terminal or a pipe may have nothing yet; then it is asked again.
- * @param {number} file @param {Buffer} chunk
+ * @param {number} file @param {Uint8Array} chunk
  */
 function readSome(file, chunk) {
   for (;;) {
@@ -65,9 +65,11 @@ function orTrouble(path, act) {
 }
 
 /**
+ * The module for other programs is loaded where it is needed: few commands do, and it takes its time.
  * @param {string} tool @param {string[]} args @param {string} input
  */
 function convert(tool, args, input) {
+  const { spawnSync } = createRequire(import.meta.url)('node:child_process');
   const done = spawnSync(tool, args, { input, maxBuffer: 1 << 28 });
   const missing = /** @type {any} */ (done.error)?.code === 'ENOENT';
   if (missing) return null;

@@ -59,7 +59,8 @@ async function answer(args, io, load) {
     return ACCEPTED;
   }
   countFiles(name, positionals);
-  return COMMANDS[name].act(new Asking(io, await load(), positionals, values, COMMANDS[name].writes === true));
+  const [module, library] = await Promise.all([COMMANDS[name].module(), load()]);
+  return module[name](new Asking(io, library, positionals, values, COMMANDS[name].writes === true));
 }
 
 /**

@@ -29,7 +29,7 @@ export function eachJournal(asking, table, files, act) {
   let worst = ACCEPTED;
   for (const [k, file] of files.entries()) {
     try {
-      for (const source of named(asking.all(table, JOURNALS, file))) worst = Math.max(worst, act(source));
+      for (const source of named(asking.all(table, JOURNALS, file, true))) worst = Math.max(worst, act(source));
     } catch (error) {
       worst = Math.max(worst, sayTrouble(asking, file, error));
     }

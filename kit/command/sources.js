@@ -59,11 +59,14 @@ export class Sources {
     this.inputRead = false;
   }
 
-  /** @param {string} file */
-  read(file) {
+  /**
+   * @param {string} file @param {boolean} [brief]  what is read is used before the next reading only
+   */
+  read(file, brief = false) {
     if (file === '-' && this.inputRead) throw new Trouble('the standard input can be read once only');
     if (file === '-') this.inputRead = true;
-    return this.io.read(file, LIMIT);
+    const data = this.io.read(file, LIMIT);
+    return brief ? data : Uint8Array.from(data);
   }
 
   /**
@@ -133,11 +136,11 @@ export class Sources {
 
   /**
    * What a file has of these forms: of bytes one, of a text all parts that fit. `as` picks one, or says what bytes are.
-   * @param {string} file @param {TableSource} table @param {readonly Form[]} forms @param {Form|null} as
+   * @param {string} file @param {TableSource} table @param {readonly Form[]} forms @param {Form|null} as @param {boolean} brief
    * @returns {Source[]}
    */
-  records(file, table, forms, as) {
-    const data = this.read(file);
+  records(file, table, forms, as, brief) {
+    const data = this.read(file, brief);
     if (!isText(data)) return [bytesSource(file, data, as ?? ownForm(data, forms))];
     return partsOf(file, this.text(file, data, namesFor(table)), forms, as);
   }

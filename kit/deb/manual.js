@@ -1,0 +1,67 @@
+/** The manual page and the completion, made of the list of commands. `node kit/deb/manual.js manual|completion` prints one of them. */
+
+import { COMMANDS } from '../command/commands.js';
+import { EXITS, FILES, GROUPS, optionWords, optionsOf, usage } from '../command/help.js';
+import { COMMON, OPTIONS } from '../command/options.js';
+
+/** As text of a manual page: backslashes, hyphens and a dot or an apostrophe that begins a line. */
+const roff = (/** @type {string} */ text) => text.replaceAll('\\', '\\e').replaceAll('-', '\\-').replace(/^([.'])/gm, '\\&$1');
+
+/** @param {string} name */
+function ofCommand(name) {
+  const { says, more, examples } = COMMANDS[name];
+  return [
+    `.SS ${name}`, `.B ${roff(usage(name))}`, '.PP', roff(`${says[0].toUpperCase()}${says.slice(1)}.`), roff(more.join(' ')),
+    ...COMMANDS[name].options.flatMap((option) => ['.TP', `.B ${roff(optionWords(option))}`, roff(OPTIONS[option].says)]),
+    ...examples.flatMap(([line, does]) => ['.PP', `.EX`, roff(`  ${line}`), `.EE`, `.RS 6`, roff(`${does}`), '.RE']),
+  ];
+}
+
+/** The manual page. */
+export function manual() {
+  return [
+    '.TH KROSSVIL 1', '.SH NAME', 'krossvil \\- check, run, explain and draw polling controllers and their journals', '.SH SYNOPSIS',
+    '.B krossvil', roff('COMMAND FILE... [-o FILE] [options]'), '.SH DESCRIPTION',
+    roff('Polling controllers (PLC-Automata) poll an input, test it and tick. krossvil checks their tables and journals, runs them, explains and draws them. '
+      + 'Every answer, number and place is that of a proved library; reading of texts, sentences and pictures are not proved.'),
+    ...FILES.flatMap((words) => ['.PP', roff(words)]),
+    '.SH OPTIONS', ...COMMON.flatMap((option) => ['.TP', `.B ${roff(optionWords(option))}`, roff(OPTIONS[option].says)]),
+    '.SH COMMANDS', ...GROUPS.flatMap((group) => Object.keys(COMMANDS).filter((name) => COMMANDS[name].group === group).flatMap(ofCommand)),
+    '.SH EXIT STATUS', ...EXITS.flatMap(([code, says]) => ['.TP', `.B ${code}`, roff(says)]),
+    '.SH FILES', '.TP', '.I /usr/share/doc/krossvil/examples', 'ready examples',
+    '.TP', '.I /usr/share/krossvil/krossvil.html', 'the live page', '',
+  ].join('\n');
+}
+
+/** The completion for bash. */
+export function completion() {
+  const options = (/** @type {string} */ name) => optionsOf(name).flatMap((option) => [`--${option}`, ...(OPTIONS[option].short ? [`-${OPTIONS[option].short}`] : [])]).join(' ');
+  return [
+    '# Completion of krossvil for bash: commands, options, kinds and files.',
+    '_krossvil() {',
+    '    local word=${COMP_WORDS[COMP_CWORD]} before=${COMP_WORDS[COMP_CWORD - 1]} options',
+    '    if [ "$COMP_CWORD" -eq 1 ]; then',
+    `        mapfile -t COMPREPLY < <(compgen -W '${Object.keys(COMMANDS).join(' ')} help' -- "$word")`,
+    '        return',
+    '    fi',
+    '    if [ "$before" = --as ]; then',
+    `        mapfile -t COMPREPLY < <(compgen -W 'table journal short stamped stimulus' -- "$word")`,
+    '        return',
+    '    fi',
+    '    case ${COMP_WORDS[1]} in',
+    `    help) mapfile -t COMPREPLY < <(compgen -W '${Object.keys(COMMANDS).join(' ')}' -- "$word"); return ;;`,
+    ...Object.keys(COMMANDS).map((name) => `    ${name}) options='${options(name)}' ;;`),
+    '    esac',
+    '    if [[ $word == -* ]]; then',
+    '        mapfile -t COMPREPLY < <(compgen -W "$options" -- "$word")',
+    '    else',
+    '        mapfile -t COMPREPLY < <(compgen -f -- "$word")',
+    '    fi',
+    '}',
+    'complete -o filenames -F _krossvil krossvil', '',
+  ].join('\n');
+}
+
+const [what] = process.argv.slice(2);
+if (what === 'manual') process.stdout.write(manual());
+if (what === 'completion') process.stdout.write(completion());
