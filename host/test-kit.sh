@@ -27,7 +27,7 @@ install_tools() { # what the kit needs, and what its tests need
     install_packages "${missing[@]}"
 }
 
-build() { # WHAT COMMAND...: nothing can be tested without it
+build() { # WHAT COMMAND...: what follows needs it
     echo "== $1"
     if "${@:2}"; then
         passed=$((passed + 1))
@@ -55,5 +55,6 @@ build 'the library as WebAssembly' kit/wasm/build
 build 'the page' node kit/page/build
 build 'the package' kit/deb/build
 part kit/test/run
+build "the command's types" tsc -p kit/command/tsconfig.json
 part kit/deb/try
 finish

@@ -44,8 +44,8 @@ export function optionWords(name) {
 /** @param {string} name */
 export const usage = (name) => `krossvil ${name} ${COMMANDS[name].files}${COMMANDS[name].options.includes('output') ? ' [-o FILE]' : ''} [options]`;
 
-/** The options of a command. @param {string} name */
-export const optionsOf = (name) => [...COMMANDS[name].options, ...COMMON];
+/** The options of a command. */
+export const optionsOf = (/** @type {string} */ name) => [...COMMANDS[name].options, ...COMMON];
 
 /** Of all commands. */
 export function generalHelp() {

@@ -77,7 +77,7 @@ export function picture(asking) {
 function drawByGraphviz(asking, table) {
   const ending = endingOf(asking, 'svg');
   if (!['svg', 'png', 'pdf'].includes(ending)) throw new Trouble(`an automaton is written as .svg, .png, .pdf or .dot, not as .${ending}`);
-  const made = asking.io.convert('dot', [`-T${ending}`], automatonDot(table, { title: asking.options.title }));
+  const made = asking.io.convert('dot', [`-T${ending}`], automatonDot(table));
   if (!made) throw new Trouble('the package graphviz is missing: apt-get install graphviz; or leave --graphviz out');
   put(asking, ending === 'svg' ? Buffer.from(made).toString('utf8') : made);
 }
@@ -92,7 +92,7 @@ export function draw(asking) {
   if (tableRefused(asking, source)) return REFUSED;
   const table = /** @type {Table} */ (decodeTable(source.bytes, source.names));
   const title = titleOf(asking, source.file);
-  if (endingOf(asking, 'svg') === 'dot') put(asking, automatonDot(table, { title }));
+  if (endingOf(asking, 'svg') === 'dot') put(asking, automatonDot(table));
   else if (asking.options.graphviz) drawByGraphviz(asking, table);
   else putPicture(asking, automaton(table, { title, width, theme: themeOf(asking) }));
   return said(asking, source.file);

@@ -1,0 +1,9 @@
+// What the command uses of Node, as far as its types are checked: not at all.
+declare module 'node:fs';
+declare module 'node:module';
+declare module 'node:path';
+declare module 'node:url';
+declare module 'node:util';
+declare const process: any;
+declare const Buffer: any;
+type Buffer = any;
