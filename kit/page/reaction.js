@@ -81,15 +81,16 @@ export class ReactionPanel {
 
   /** Asks again: the table, a set or the number of moves changed. */
   answer() {
-    const { answer: room, picture, moves } = this.rooms;
+    const { answer: room, picture } = this.rooms;
     picture.hidden = true;
     if (!this.given) {
       fill(room, make('p', { class: 'hint' }, 'There is no table that passes.'));
       return;
     }
     const { bytes, table } = this.given;
-    const question = this.hasMoves && moves.value !== '' ? { ...this.sets, moves: Number(moves.value) } : this.sets;
-    const said = this.#ask(bytes, question);
+    const moves = this.#moves();
+    const question = moves === 1 ? this.sets : { ...this.sets, moves };
+    const said = this.#ask(bytes, moves);
     if (!said.ok) {
       const { sentences } = explainReaction(table, said, question);
       fill(room, make('p', { class: 'line' }, make('strong', {}, `refused ${said.number} at ${said.place}`)), make('p', {}, sentences.join(' ')));
@@ -98,13 +99,23 @@ export class ReactionPanel {
     this.#show(table, question, said);
   }
 
+  /** How many moves are asked for: one if nothing else is said. */
+  #moves() {
+    const { value } = this.rooms.moves;
+    return this.hasMoves && value !== '' ? Math.max(0, Math.floor(Number(value))) : 1;
+  }
+
   /**
-   * @param {Uint8Array} bytes @param {{states: number, inputs: number, moves?: number}} question
+   * Of one move the tight time too, which is not calculated for more.
+   * @param {Uint8Array} bytes @param {number} moves
    * @returns {any}
    */
-  #ask(bytes, { states, inputs, moves }) {
-    if (moves !== undefined) return this.library.reactionMoves(bytes, states, inputs, Math.max(0, Math.floor(moves)));
-    return this.hasTight ? this.library.reactionTight(bytes, states, inputs) : this.library.reaction(bytes, states, inputs);
+  #ask(bytes, moves) {
+    const { states, inputs } = this.sets;
+    const over = this.hasMoves ? this.library.reactionMoves(bytes, states, inputs, moves) : { ok: true };
+    if (moves !== 1 || !over.ok) return over;
+    const one = this.hasTight ? this.library.reactionTight(bytes, states, inputs) : this.library.reaction(bytes, states, inputs);
+    return { ...over, ...one };
   }
 
   /**
@@ -114,7 +125,8 @@ export class ReactionPanel {
     const { answer: room, picture } = this.rooms;
     const target = members(said.target).map((state) => nameOf(table.names.states, state)).join(', ') || 'nowhere';
     const { path } = said;
-    fill(room, make('p', { class: 'line' }, make('strong', {}, `at most ${said.time}`), make('span', { class: 'meaning' }, `until: ${target}`)),
+    const tight = said.tight === undefined ? null : make('span', { class: 'meaning' }, make('strong', {}, `tight ${said.tight}`), ' in whole units');
+    fill(room, make('p', { class: 'line' }, make('strong', {}, `at most ${said.time}`), tight, make('span', { class: 'meaning' }, `until: ${target}`)),
       make('p', {}, sayReaction(table, question, said).join(' ')), path && make('p', {}, sayPath(table, path)));
     if (!path) return;
     picture.hidden = false;

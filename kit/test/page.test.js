@@ -2,6 +2,9 @@
 
 import assert from 'node:assert/strict';
 import { execFileSync } from 'node:child_process';
+import { existsSync, mkdtempSync, readFileSync, rmSync } from 'node:fs';
+import { tmpdir } from 'node:os';
+import { join } from 'node:path';
 import { after, before, test } from 'node:test';
 import { fileURLToPath } from 'node:url';
 import { acceptanceLine, refusalLine } from '../answers.js';
@@ -33,7 +36,7 @@ async function open(t, hash, size) {
   tabs.push(tab);
   t.after(async () => {
     assert.deepEqual(tab.complaints, []);
-    assert.deepEqual(tab.requests.filter((url) => url.split('#')[0] !== FILE.href), []);
+    assert.deepEqual(tab.requests.filter((url) => url.split('#')[0] !== FILE.href && !/^(blob|data):/.test(url)), []);
     await tab.close();
   });
   return tab;
@@ -245,6 +248,26 @@ test('a reaction time is asked for by names', async (t) => {
   assert.match(await tab.text('#reaction-answer'), /^refused 10 at \d+The states do not hold together/);
 });
 
+/** Has this library the function? */
+const offers = (name) => Boolean(library.module.exports[`krossvil_${name}`]);
+
+test('several moves and the tight time are asked for where the library has them', async (t) => {
+  const tab = await open(t, 'example=watchdog');
+  const { bytes } = readText(sample('watchdog')).parts[0];
+  const answer = () => tab.text('#reaction-answer');
+  assert.equal(await tab.value("document.getElementById('reaction-moves-room').hidden"), !offers('reaction_moves'));
+  if (offers('reaction_tight')) assert.match(await answer(), new RegExp(`tight ${library.reactionTight(bytes, 7, 1).tight}`));
+  else assert.doesNotMatch(await answer(), /tight/);
+  if (!offers('reaction_moves')) return;
+  await tab.click('#reaction-inputs input[data-member="0"]');
+  await tab.click('#reaction-inputs input[data-member="1"]');
+  await tab.value("(() => { const moves = document.getElementById('reaction-moves'); moves.value = '2'; moves.dispatchEvent(new Event('input')); })()");
+  const { time, path } = library.reactionMoves(bytes, 7, 2, 2);
+  assert.match(await answer(), new RegExp(`at most ${time}`));
+  const lit = await tab.value("[...document.querySelectorAll('#reaction-picture .state.lit')].map((state) => Number(state.dataset.state))");
+  assert.deepEqual(lit.sort(), [...new Set(path.filter((_, k) => k % 2 === 0))].sort());
+});
+
 test('the link carries the texts, and a broken one does no harm', async (t) => {
   const tab = await open(t, 'example=changed-verdict');
   await caretBehind(tab, 'journal', 'krossvil journal');
@@ -319,4 +342,58 @@ test('every control can be reached by the keyboard and has a name', async (t) =>
     reached.add(await tab.value("document.activeElement.id || document.activeElement.closest('[id]')?.id"));
   }
   for (const id of ['examples', 'open', 'link', 'large', 'tab-journal', 'pane-journal', 'run', 'go', 'tool-compare', 'reaction-states', 'first', 'next']) assert.ok(reached.has(id), `${id} of ${[...reached]}`);
+});
+
+test('texts, bytes and pictures are saved', async (t) => {
+  const folder = mkdtempSync(join(tmpdir(), 'krossvil-saved-'));
+  t.after(() => rmSync(folder, { recursive: true }));
+  const tab = await open(t, 'example=changed-verdict');
+  await browser.send('Browser.setDownloadBehavior', { behavior: 'allow', downloadPath: folder });
+  const saved = async (label, name) => {
+    await tab.click('#save summary');
+    await tab.value(`[...document.querySelectorAll('#save-list button')].find((button) => button.textContent === ${JSON.stringify(label)}).click()`);
+    for (let k = 0; k < 400 && !existsSync(join(folder, name)); k++) await new Promise((resolve) => setTimeout(resolve, 25));
+    return readFileSync(join(folder, name));
+  };
+  const { parts } = readText(sample('changed-verdict'));
+  for (const kind of ['table', 'stimulus', 'journal']) {
+    const bytes = await saved(`${kind[0].toUpperCase()}${kind.slice(1)}, as bytes`, `krossvil.${kind}`);
+    assert.deepEqual([...bytes], [...parts.find((part) => part.kind === kind).bytes]);
+  }
+  const again = readText(await saved('All texts', 'krossvil.kv'));
+  assert.deepEqual(again.parts.map(({ bytes }) => [...bytes]), parts.map(({ bytes }) => [...bytes]));
+  assert.ok(/^<svg .*refused 28 at byte 76/s.test(String(await saved('Timing diagram, SVG', 'krossvil-diagram.svg'))));
+  assert.match(String(await saved('Automaton, SVG', 'krossvil-automaton.svg')), /^<svg /);
+  assert.match(String(await saved('Automaton, DOT', 'krossvil-automaton.dot')), /^digraph/);
+  assert.match(String(await saved('Waves, VCD', 'krossvil.vcd')), /\$enddefinitions/);
+  assert.equal((await saved('Timing diagram, PNG', 'krossvil-diagram.png')).subarray(1, 4).toString(), 'PNG');
+});
+
+/** In the page: every piece of text whose contrast to what it stands on is below 4.5. Pictures have colours and tests of their own. */
+const FAINT = `(() => {
+  const parts = (colour) => colour.match(/[\\d.]+/g).map(Number);
+  const light = (colour) => parts(colour).slice(0, 3).map((each) => each / 255)
+    .map((each) => (each <= 0.03928 ? each / 12.92 : ((each + 0.055) / 1.055) ** 2.4)).reduce((sum, each, k) => sum + each * [0.2126, 0.7152, 0.0722][k], 0);
+  const ground = (element) => { for (let each = element; each; each = each.parentElement) { const colour = getComputedStyle(each).backgroundColor;
+    if ((parts(colour)[3] ?? 1) > 0) return colour; } return 'rgb(255, 255, 255)'; };
+  const seen = [...document.querySelectorAll('body *')].filter((each) => !each.closest('svg, .stale, script, noscript, option, .unseen, .marks, :disabled')
+    && each.getClientRects().length > 0 && (each.matches('textarea') || [...each.childNodes].some((node) => node.nodeType === 3 && node.data.trim())));
+  return { count: seen.length, faint: seen.map((each) => { const [a, b] = [light(getComputedStyle(each).color), light(ground(each))];
+    return [each.outerHTML.slice(0, 80), (Math.max(a, b) + 0.05) / (Math.min(a, b) + 0.05)]; }).filter(([, ratio]) => ratio < 4.5) };
+})()`;
+
+test('words have the contrast that a projector needs, in light and dark', async (t) => {
+  const tab = await open(t, 'example=changed-verdict');
+  for (let dark = 0; dark < 2; dark++) {
+    for (const name of ['classroom', 'changed-verdict', 'old-table', null]) {
+      if (name) await tab.value(`(() => { const list = document.getElementById('examples'); list.value = '${name}'; list.dispatchEvent(new Event('change')); })()`);
+      else await setPane(tab, 'table', 'krossvil table\ncycle x\n');
+      await tab.frames();
+      if (name === 'changed-verdict') for (let k = 0; k < 4; k++) await tab.click('#next');
+      const { count, faint } = await tab.value(FAINT);
+      assert.ok(count > 20, `${count}`);
+      assert.deepEqual(faint, [], `${name}, ${dark}`);
+    }
+    await tab.click('#dark');
+  }
 });
