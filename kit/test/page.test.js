@@ -268,6 +268,44 @@ test('several moves and the tight time are asked for where the library has them'
   assert.deepEqual(lit.sort(), [...new Set(path.filter((_, k) => k % 2 === 0))].sort());
 });
 
+/** A stand-in for functions that a library may have: they give these numbers, so that the page can be seen to show them. */
+const STAND_IN = `{
+  const instantiate = WebAssembly.instantiate;
+  WebAssembly.instantiate = async (...given) => {
+    const { instance } = await instantiate.apply(WebAssembly, given);
+    const write = (at, numbers) => numbers.forEach((number, k) => new DataView(instance.exports.memory.buffer).setUint32(at + 4 * k, number));
+    const moves = (table, length, states, inputs, count, sums, room, path, most, answer) => {
+      if (count > 32) return 32n << 32n;
+      new Uint8Array(instance.exports.memory.buffer).set([0, 1, 1], path);
+      write(answer, [1000 + count, 4, 3]);
+      return 0n;
+    };
+    const tight = (table, length, states, inputs, answer) => {
+      write(answer, [1001, 4, 998]);
+      return 0n;
+    };
+    return { instance: { exports: { ...instance.exports, krossvil_reaction_moves: moves, krossvil_reaction_tight: tight } } };
+  };
+}`;
+
+test('the page shows what a library says of several moves, with the worst path, and the tight time', async (t) => {
+  const tab = await open(t, 'example=classroom');
+  await tab.send('Page.addScriptToEvaluateOnNewDocument', { source: STAND_IN });
+  await tab.send('Page.reload');
+  await tab.until("document.documentElement.dataset.ready === 'yes' && document.getElementById('reaction-moves-room').hidden === false");
+  await tab.value("(() => { const list = document.getElementById('examples'); list.value = 'watchdog'; list.dispatchEvent(new Event('change')); })()");
+  await tab.frames();
+  assert.match(await tab.text('#reaction-answer'), /^at most 1001tight 998 in whole unitsuntil: alarm/);
+  const ask = (moves) => tab.value(`(() => { const field = document.getElementById('reaction-moves'); field.value = '${moves}'; field.dispatchEvent(new Event('input')); })()`);
+  await ask(2);
+  assert.match(await tab.text('#reaction-answer'), /^at most 1002until: alarm.*The longest way: 'quiet' under 'silence' to 'watch'\./);
+  const lit = (what) => tab.value(`[...document.querySelectorAll('#reaction-picture ${what}.lit')].map(({ dataset }) => dataset.state ?? dataset.from + dataset.to).join()`);
+  assert.deepEqual([await lit('.state'), await lit('.edge')], ['0,1', '01']);
+  await ask(33);
+  assert.match(await tab.text('#reaction-answer'), /^refused 32 at 0.*at most 32 are calculated/);
+  assert.equal(await tab.value("document.getElementById('reaction-picture').hidden"), true);
+});
+
 test('the link carries the texts, and a broken one does no harm', async (t) => {
   const tab = await open(t, 'example=changed-verdict');
   await caretBehind(tab, 'journal', 'krossvil journal');
