@@ -14,8 +14,8 @@ import { put } from './writing.js';
 /** @typedef {import('./sources.js').Source} Source */
 /** @typedef {import('./sources.js').TableSource} TableSource */
 
-/** The example that the page opens with: what is given takes its place, and it stays among the others under another name. */
-const OPENED = 'changed-verdict';
+/** The name of the example that is given, with which the page opens. */
+const GIVEN = 'given';
 
 const DATA = /(<script type="application\/json" id="data">)([^<]*)(<\/script>)/;
 
@@ -42,9 +42,9 @@ function textOf(asking, table) {
 export function pageWith(html, example) {
   const found = DATA.exec(html);
   const data = found ? JSON.parse(found[2]) : null;
-  if (!found || !Array.isArray(data?.samples)) throw new Trouble('this page takes no example; open it and drop the files on it');
-  for (const sample of data.samples) if (sample.name === OPENED) sample.name = `${OPENED}-2`;
-  data.samples.unshift({ name: OPENED, ...example });
+  if (!found || !Array.isArray(data?.samples) || typeof data.opens !== 'string') throw new Trouble('this page takes no example; open it and drop the files on it');
+  data.samples.unshift({ name: GIVEN, ...example });
+  data.opens = GIVEN;
   return html.slice(0, found.index) + found[1] + inScript(data) + found[3] + html.slice(found.index + found[0].length);
 }
 
