@@ -34,10 +34,12 @@ const LARGER = 1.25;
 class Page {
   /**
    * @param {Library} library @param {(import('../examples.js').Example & {text: string})[]} samples
+   * @param {string} opens  the example that is shown where the address carries nothing else
    */
-  constructor(library, samples) {
+  constructor(library, samples, opens) {
     this.library = library;
     this.samples = samples;
+    this.opens = opens;
     this.title = 'A journal';
     /** @type {Pane} */
     this.pane = 'journal';
@@ -419,7 +421,7 @@ class Page {
     }
   }
 
-  /** What the address carries; the first example if it carries nothing. */
+  /** What the address carries; an example if it carries nothing. */
   async fromAddress() {
     if (location.hash === this.hash && this.hash !== '') return;
     const carried = await fromHash(location.hash);
@@ -430,7 +432,7 @@ class Page {
       const texts = { ...noTexts(), ...splitText(carried.text) };
       this.replace(texts, texts.journal ? 'journal' : texts.stimulus ? 'stimulus' : 'table');
     } else if (!carried || !this.example(carried.example)) {
-      this.example('changed-verdict');
+      this.example(this.opens);
     }
   }
 
@@ -584,8 +586,8 @@ function listExamples(samples) {
 }
 
 async function begin() {
-  const { wasm, samples } = JSON.parse(byId('data').textContent);
-  const page = new Page(await loadLibrary(fromBase64(wasm)), samples);
+  const { wasm, samples, opens } = JSON.parse(byId('data').textContent);
+  const page = new Page(await loadLibrary(fromBase64(wasm)), samples, opens);
   listExamples(samples);
   listenToButtons(page);
   listenToTabs(page);
