@@ -10,6 +10,9 @@ import { put } from './writing.js';
 /** @typedef {import('./asking.js').Asking} Asking */
 /** @typedef {import('./sources.js').Source} Source */
 
+/** No form needs less than a character and a half for a byte: longer files have no text that could be read back. */
+const MOST = TEXT_MAX * 2 / 3;
+
 /**
  * The parts of a text: tables before what uses their names, each kind once.
  * @param {Source[]} parts
@@ -31,9 +34,11 @@ export function text(asking) {
   const parts = inOrder(given.flatMap((each) => each.parts));
   const table = parts.find(({ form }) => form === 'table');
   const names = asking.givenNames ?? given.find((each) => each.names)?.names ?? (table ? decodeTable(table.bytes)?.names : null) ?? null;
+  const tooLong = new Trouble(`${shownFile(asking.files[0])}: as a text it is too long to be read back`);
+  if (parts.some(({ bytes }) => bytes.length > MOST)) throw tooLong;
   const texts = parts.map(({ form, bytes }) => (form === 'table' ? tableText(bytes, names) : recordsText(bytes, form, names)));
   const whole = texts.join('\n');
-  if (whole.length > TEXT_MAX) throw new Trouble(`${shownFile(asking.files[0])}: as a text it is too long to be read back`);
+  if (whole.length > TEXT_MAX) throw tooLong;
   if (!asking.json) put(asking, whole);
   else {
     if (asking.options.output !== undefined) put(asking, whole);

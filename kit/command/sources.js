@@ -66,7 +66,7 @@ export class Sources {
     if (file === '-' && this.inputRead) throw new Trouble('the standard input can be read once only');
     if (file === '-') this.inputRead = true;
     const data = this.io.read(file, LIMIT);
-    return brief ? data : Uint8Array.from(data);
+    return brief ? data : new Uint8Array(data);
   }
 
   /**

@@ -110,7 +110,7 @@ test(`dwell and react on ${ROUNDS} tables: the library's numbers`, async () => {
 
 test('pictures, dumps, pages, texts: no exception on any bytes, and a picture wherever the table passes', async () => {
   const chance = new Chance(14);
-  for (let k = 0; k < 80; k++) {
+  for (let k = 0; k < 40; k++) {
     const { table, journal, short, stamped } = drawFiles(chance);
     const passes = library.checkTable(table).ok;
     for (const [form, bytes] of Object.entries({ journal, short, stamped })) {
