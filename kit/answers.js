@@ -81,19 +81,21 @@ export function sayLeft(trace) {
 export function sayReaction({ names }, question, answer) {
   const [states, inputs] = [named(names.states, question.states), named(names.inputs, question.inputs)];
   const over = question.moves === undefined ? '' : say` over ${counted(question.moves, 'move')}`;
-  const sentences = [say`As long as the state is one of ${states} and the input one of ${inputs}, it takes at most `
-    + say`${answer.time}${over} until the state is one of ${named(names.states, answer.target)}.`];
-  if (answer.target === 0) sentences.push('No state is left to be in: this never lasts so long.');
+  const sentences = [answer.target === 0
+    ? say`That the state is one of ${states} and the input one of ${inputs} never lasts for ${answer.time}${over}: no state is left to be in.`
+    : say`As long as the state is one of ${states} and the input one of ${inputs}, it takes at most ${answer.time}${over} `
+      + say`until the state is one of ${named(names.states, answer.target)}.`];
   if (answer.tight !== undefined) sentences.push(say`In whole units ${answer.tight} is enough.`);
   return sentences;
 }
 
 /**
- * A worst path, as: 'busy' under 'no_train', 'idle'.
+ * A worst path, as: 'quiet' under 'silence' to 'watch'.
  * @param {Table} table @param {number[]} path  state, input, state ..
  */
 export function sayPath({ names }, path) {
   if (path.length === 0) return 'There is no state outside the target to wait in.';
+  if (path.length === 1) return say`The longest wait is in ${quoted(names.states, path[0])}.`;
   const steps = path.map((member, k) => (k % 2 === 0 ? quoted(names.states, member) : say`under ${quoted(names.inputs, member)} to`));
   return say`The longest way: ${steps.join(' ')}.`;
 }

@@ -57,7 +57,7 @@ class Page {
     /** @type {Subject|null} */
     this.subject = null;
     this.reaction = new ReactionPanel(library, {
-      states: byId('reaction-states'), inputs: byId('reaction-inputs'), moves: byId('reaction-moves'), movesRoom: byId('reaction-moves-room'),
+      states: byId('reaction-states'), inputs: byId('reaction-inputs'), moves: byId('reaction-moves'),
       answer: byId('reaction-answer'), picture: byId('reaction-picture'),
     }, () => this.#look(byId('reaction-panel')));
   }

@@ -1,9 +1,10 @@
 /** Reaction times by names. Every number is the library's. */
 
-import { sayPath, sayReaction } from '../answers.js';
+import { refusalLine, sayPath, sayReaction } from '../answers.js';
 import { automaton } from '../automaton.js';
 import { explainReaction } from '../explain.js';
 import { nameOf } from '../name-of.js';
+import { thousands } from '../names.js';
 import { members, setOf, wholeSet } from '../sets.js';
 import { fill, make, show } from './dom.js';
 
@@ -11,33 +12,47 @@ import { fill, make, show } from './dom.js';
 /** @typedef {import('../types.js').Table} Table */
 /** @typedef {import('./workspace.js').Answers} Answers */
 
+/** @typedef {{states: number, inputs: number, moves: number}} Question */
+
 /**
- * Has this library the function? One that is missing throws.
- * @param {() => any} call
+ * Of one move the tight time too, which is not calculated for more.
+ * @param {Library} library @param {Uint8Array} bytes @param {Question} question
+ * @returns {any}
  */
-function offered(call) {
-  try {
-    call();
-    return true;
-  } catch {
-    return false;
-  }
+function ask(library, bytes, { states, inputs, moves }) {
+  const over = library.reactionMoves(bytes, states, inputs, moves);
+  return over.ok && moves === 1 ? { ...over, ...library.reactionTight(bytes, states, inputs) } : over;
+}
+
+/**
+ * The library's answer: in a few words, in sentences, and the path to be lit.
+ * @param {Library} library @param {{bytes: Uint8Array, table: Table}} given  a table that passes
+ * @param {Question} question
+ * @returns {{line: string, beside: string[], sentences: string[], path: number[]}}
+ */
+export function answerReaction(library, { bytes, table }, question) {
+  const said = ask(library, bytes, question);
+  if (!said.ok) return { line: refusalLine(said), beside: [], sentences: explainReaction(table, said, question).sentences, path: [] };
+  const { time, tight, target, path } = said;
+  const until = members(target).map((state) => nameOf(table.names.states, state)).join(', ') || 'nowhere';
+  return {
+    line: `at most ${thousands(time)}`,
+    beside: [...(tight === undefined ? [] : [`tight ${thousands(tight)}, in whole units`]), `until: ${until}`],
+    sentences: [...sayReaction(table, question.moves === 1 ? { ...question, moves: undefined } : question, said), sayPath(table, path)],
+    path,
+  };
 }
 
 /** The form for a reaction time, and its answer. */
 export class ReactionPanel {
   /**
-   * @param {Library} library @param {{states: Element, inputs: Element, moves: any, movesRoom: HTMLElement, answer: Element, picture: HTMLElement}} rooms
+   * @param {Library} library @param {{states: Element, inputs: Element, moves: any, answer: Element, picture: HTMLElement}} rooms
    * @param {() => {width: number, theme: 'light'|'dark', scale: number}} look
    */
   constructor(library, rooms, look) {
     this.library = library;
     this.rooms = rooms;
     this.look = look;
-    const none = new Uint8Array();
-    this.hasMoves = offered(() => library.reactionMoves(none, 0, 0, 1));
-    this.hasTight = offered(() => library.reactionTight(none, 0, 0));
-    rooms.movesRoom.hidden = !this.hasMoves;
     rooms.moves.addEventListener('input', () => this.answer());
     /** What the check boxes were made for. */
     this.made = '';
@@ -82,55 +97,27 @@ export class ReactionPanel {
   /** Asks again: the table, a set or the number of moves changed. */
   answer() {
     const { answer: room, picture } = this.rooms;
-    picture.hidden = true;
     if (!this.given) {
+      picture.hidden = true;
       fill(room, make('p', { class: 'hint' }, 'There is no table that passes.'));
       return;
     }
-    const { bytes, table } = this.given;
-    const moves = this.#moves();
-    const question = moves === 1 ? this.sets : { ...this.sets, moves };
-    const said = this.#ask(bytes, moves);
-    if (!said.ok) {
-      const { sentences } = explainReaction(table, said, question);
-      fill(room, make('p', { class: 'line' }, make('strong', {}, `refused ${said.number} at ${said.place}`)), make('p', {}, sentences.join(' ')));
-      return;
-    }
-    this.#show(table, question, said);
+    const { line, beside, sentences, path } = answerReaction(this.library, this.given, { ...this.sets, moves: this.#moves() });
+    const words = beside.map((each) => make('span', { class: 'meaning' }, each));
+    fill(room, make('p', { class: 'line' }, make('strong', {}, line), words), make('p', {}, sentences.join(' ')));
+    picture.hidden = path.length === 0;
+    if (path.length > 0) this.#light(this.given.table, path);
   }
 
   /** How many moves are asked for: one if nothing else is said. */
   #moves() {
     const { value } = this.rooms.moves;
-    return this.hasMoves && value !== '' ? Math.max(0, Math.floor(Number(value))) : 1;
+    return value === '' ? 1 : Math.max(0, Math.floor(Number(value)));
   }
 
-  /**
-   * Of one move the tight time too, which is not calculated for more.
-   * @param {Uint8Array} bytes @param {number} moves
-   * @returns {any}
-   */
-  #ask(bytes, moves) {
-    const { states, inputs } = this.sets;
-    const over = this.hasMoves ? this.library.reactionMoves(bytes, states, inputs, moves) : { ok: true };
-    if (moves !== 1 || !over.ok) return over;
-    const one = this.hasTight ? this.library.reactionTight(bytes, states, inputs) : this.library.reaction(bytes, states, inputs);
-    return { ...over, ...one };
-  }
-
-  /**
-   * @param {Table} table @param {{states: number, inputs: number, moves?: number}} question @param {any} said
-   */
-  #show(table, question, said) {
-    const { answer: room, picture } = this.rooms;
-    const target = members(said.target).map((state) => nameOf(table.names.states, state)).join(', ') || 'nowhere';
-    const { path } = said;
-    const tight = said.tight === undefined ? null : make('span', { class: 'meaning' }, make('strong', {}, `tight ${said.tight}`), ' in whole units');
-    fill(room, make('p', { class: 'line' }, make('strong', {}, `at most ${said.time}`), tight, make('span', { class: 'meaning' }, `until: ${target}`)),
-      make('p', {}, sayReaction(table, question, said).join(' ')), path && make('p', {}, sayPath(table, path)));
-    if (!path) return;
-    picture.hidden = false;
+  /** @param {Table} table @param {number[]} path */
+  #light(table, path) {
     const { scale, ...look } = this.look();
-    show(picture, automaton(table, { title: 'The longest way', lit: { path }, ...look }), scale);
+    show(this.rooms.picture, automaton(table, { title: 'The longest way', lit: { path }, ...look }), scale);
   }
 }

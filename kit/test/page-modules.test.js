@@ -9,6 +9,7 @@ import { sayAnswer, subjectOf } from '../page/answer.js';
 import { joinTexts, noTexts, splitText, takeFiles } from '../page/documents.js';
 import { fromHash, toHash } from '../page/link.js';
 import { machineAt, machineCells, sayStep } from '../page/machine.js';
+import { answerReaction } from '../page/reaction.js';
 import { RUN, TOOLS } from '../page/tools.js';
 import { PANES, ask, readPanes } from '../page/workspace.js';
 import { Chance } from './chance.js';
@@ -120,6 +121,15 @@ test('a pane without its heading is told so, and does not spoil the others', () 
   assert.deepEqual(reading.mistakes.map(({ pane, line, says }) => [pane, line, says]), [['journal', 2, 'this text begins with the words: krossvil journal']]);
   assert.ok(reading.table && reading.stimulus && !reading.journal);
   assert.deepEqual(readPanes({ ...noTexts(), journal: 'x' }).mistakes.length, 1);
+});
+
+test('a question about members that are not there is answered in words', () => {
+  const { reading, decoded } = ask(library, { ...noTexts(), ...splitText(sample('classroom')) });
+  const answer = (states, inputs) => answerReaction(library, { bytes: reading.table.bytes, table: decoded }, { states, inputs, moves: 1 });
+  assert.deepEqual(answer(7, 1), {
+    line: 'refused 9 at 0', beside: [], path: [], sentences: ['The set of states names number 2, but the 2 states are numbered 0 to 1.'],
+  });
+  assert.match(answer(3, 8).sentences[0], /^The set of inputs names number 3, but the 2 inputs are numbered 0 to 1\.$/);
 });
 
 test('links carry every text, and wrong ones carry nothing', async () => {

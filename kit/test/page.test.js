@@ -56,6 +56,13 @@ function expected(name) {
 
 const VERDICT = '#verdict';
 
+/** Chooses an example from the list. */
+async function choose(tab, name) {
+  await tab.value(`(() => { const list = document.getElementById('examples'); list.value = ${JSON.stringify(name)};
+    list.dispatchEvent(new Event('change')); })()`);
+  await tab.frames();
+}
+
 /** Puts the caret behind the first place where a pane's text has these words. */
 async function caretBehind(tab, pane, words) {
   await tab.click(`#tab-${pane}`);
@@ -83,8 +90,7 @@ const paneText = (tab, pane) => tab.value(`document.querySelector('#pane-${pane}
 test('every example opens with the answer of the library', async (t) => {
   const tab = await open(t, 'example=classroom');
   for (const { name } of EXAMPLES) {
-    await tab.value(`(() => { const list = document.getElementById('examples'); list.value = ${JSON.stringify(name)}; list.dispatchEvent(new Event('change')); })()`);
-    await tab.frames();
+    await choose(tab, name);
     assert.equal(await tab.text(VERDICT), expected(name), name);
     const rings = await tab.value("document.querySelector('#pictures').hidden ? null : document.querySelectorAll('#diagram:not([hidden]) .refused-record').length");
     if (rings !== null) assert.equal(rings, expected(name).startsWith('refused') ? 1 : 0, name);
@@ -236,74 +242,78 @@ test('a journal is compared with its own run', async (t) => {
   assert.match(await tab.text('#tool-answer'), /2 records of the journal differ.*The test at 10 says free; in the run it is held\./s);
 });
 
-test('a reaction time is asked for by names', async (t) => {
-  const tab = await open(t, 'example=stutter-filter');
-  const { parts } = readText(sample('stutter-filter'));
-  const { bytes } = parts[0];
-  assert.match(await tab.text('#reaction-answer'), new RegExp(`at most ${library.reaction(bytes, 3, 1).time}`));
-  await tab.click('#reaction-inputs input[data-member="0"]');
-  await tab.click('#reaction-inputs input[data-member="1"]');
-  assert.match(await tab.text('#reaction-answer'), new RegExp(`at most ${library.reaction(bytes, 3, 2).time}until: q0`));
-  await tab.click('#reaction-states input[data-member="0"]');
-  assert.match(await tab.text('#reaction-answer'), /^refused 10 at \d+The states do not hold together/);
-});
+/** Sets the boxes and the number of moves of the reaction panel. */
+async function askReaction(tab, { states, inputs, moves = 1 }) {
+  await tab.value(`(() => {
+    for (const [which, set] of [['states', ${states}], ['inputs', ${inputs}]]) {
+      for (const box of document.querySelectorAll('#reaction-' + which + ' input')) {
+        if (box.checked !== ((set >>> box.dataset.member & 1) === 1)) box.click();
+      }
+    }
+    const field = document.getElementById('reaction-moves');
+    field.value = '${moves}';
+    field.dispatchEvent(new Event('input'));
+  })()`);
+  return tab.text('#reaction-answer');
+}
 
-/** Has this library the function? */
-const offers = (name) => Boolean(library.module.exports[`krossvil_${name}`]);
+/** What is lit in the picture of the reaction panel, and nothing if it is hidden. */
+async function litPath(tab) {
+  const lit = (what, name) => tab.value(`[...document.querySelectorAll('#reaction-picture:not([hidden]) .${what}.lit')].map(${name}).sort()`);
+  return { states: await lit('state', '({ dataset }) => dataset.state'), edges: await lit('edge', '({ dataset }) => dataset.from + dataset.to') };
+}
 
-test('several moves and the tight time are asked for where the library has them', async (t) => {
-  const tab = await open(t, 'example=watchdog');
-  const { bytes } = readText(sample('watchdog')).parts[0];
-  const answer = () => tab.text('#reaction-answer');
-  assert.equal(await tab.value("document.getElementById('reaction-moves-room').hidden"), !offers('reaction_moves'));
-  if (offers('reaction_tight')) assert.match(await answer(), new RegExp(`tight ${library.reactionTight(bytes, 7, 1).tight}`));
-  else assert.doesNotMatch(await answer(), /tight/);
-  if (!offers('reaction_moves')) return;
-  await tab.click('#reaction-inputs input[data-member="0"]');
-  await tab.click('#reaction-inputs input[data-member="1"]');
-  await tab.value("(() => { const moves = document.getElementById('reaction-moves'); moves.value = '2'; moves.dispatchEvent(new Event('input')); })()");
-  const { time, path } = library.reactionMoves(bytes, 7, 2, 2);
-  assert.match(await answer(), new RegExp(`at most ${time}`));
-  const lit = await tab.value("[...document.querySelectorAll('#reaction-picture .state.lit')].map((state) => Number(state.dataset.state))");
-  assert.deepEqual(lit.sort(), [...new Set(path.filter((_, k) => k % 2 === 0))].sort());
-});
+/** The states of a path, and its edges, as the picture names them. */
+function ofPath(path) {
+  const states = path.filter((_, k) => k % 2 === 0);
+  return { states: [...new Set(states)].map(String).sort(), edges: states.slice(1).map((state, k) => `${states[k]}${state}`).sort() };
+}
 
-/** A stand-in for functions that a library may have: they give these numbers, so that the page can be seen to show them. */
-const STAND_IN = `{
-  const instantiate = WebAssembly.instantiate;
-  WebAssembly.instantiate = async (...given) => {
-    const { instance } = await instantiate.apply(WebAssembly, given);
-    const write = (at, numbers) => numbers.forEach((number, k) => new DataView(instance.exports.memory.buffer).setUint32(at + 4 * k, number));
-    const moves = (table, length, states, inputs, count, sums, room, path, most, answer) => {
-      if (count > 32) return 32n << 32n;
-      new Uint8Array(instance.exports.memory.buffer).set([0, 1, 1], path);
-      write(answer, [1000 + count, 4, 3]);
-      return 0n;
-    };
-    const tight = (table, length, states, inputs, answer) => {
-      write(answer, [1001, 4, 998]);
-      return 0n;
-    };
-    return { instance: { exports: { ...instance.exports, krossvil_reaction_moves: moves, krossvil_reaction_tight: tight } } };
-  };
-}`;
+const tableOf = (name) => readText(sample(name)).parts[0].bytes;
 
-test('the page shows what a library says of several moves, with the worst path, and the tight time', async (t) => {
+test('a reaction time is asked for by names, with the tight time beside it', async (t) => {
   const tab = await open(t, 'example=classroom');
-  await tab.send('Page.addScriptToEvaluateOnNewDocument', { source: STAND_IN });
-  await tab.send('Page.reload');
-  await tab.until("document.documentElement.dataset.ready === 'yes' && document.getElementById('reaction-moves-room').hidden === false");
-  await tab.value("(() => { const list = document.getElementById('examples'); list.value = 'watchdog'; list.dispatchEvent(new Event('change')); })()");
-  await tab.frames();
-  assert.match(await tab.text('#reaction-answer'), /^at most 1001tight 998 in whole unitsuntil: alarm/);
-  const ask = (moves) => tab.value(`(() => { const field = document.getElementById('reaction-moves'); field.value = '${moves}'; field.dispatchEvent(new Event('input')); })()`);
-  await ask(2);
-  assert.match(await tab.text('#reaction-answer'), /^at most 1002until: alarm.*The longest way: 'quiet' under 'silence' to 'watch'\./);
-  const lit = (what) => tab.value(`[...document.querySelectorAll('#reaction-picture ${what}.lit')].map(({ dataset }) => dataset.state ?? dataset.from + dataset.to).join()`);
-  assert.deepEqual([await lit('.state'), await lit('.edge')], ['0,1', '01']);
-  await ask(33);
-  assert.match(await tab.text('#reaction-answer'), /^refused 32 at 0.*at most 32 are calculated/);
-  assert.equal(await tab.value("document.getElementById('reaction-picture').hidden"), true);
+  const numbers = [];
+  for (const inputs of [1, 2]) {
+    const { time, tight } = library.reactionTight(tableOf('classroom'), 3, inputs);
+    numbers.push(time, tight);
+    const said = await askReaction(tab, { states: 3, inputs });
+    assert.match(said, new RegExp(`^at most ${time}tight ${tight}, in whole unitsuntil: ${inputs === 1 ? 'idle' : 'busy'}As long as`));
+    assert.deepEqual(await litPath(tab), ofPath(library.reactionMoves(tableOf('classroom'), 3, inputs, 1).path));
+  }
+  assert.deepEqual(numbers, [14, 12, 6, 5]);
+  assert.match(await askReaction(tab, { states: 3, inputs: 3 }), /^at most 3tight 3, .*There is no state outside the target to wait in\.$/);
+  assert.deepEqual(await litPath(tab), { states: [], edges: [] });
+  assert.match(await askReaction(tab, { states: 1, inputs: 0 }), /never lasts for 6: no state is left to be in\./);
+});
+
+test('several moves are asked for, and the worst path is lit', async (t) => {
+  for (const [name, states, most] of [['classroom', 3, 3], ['watchdog', 7, 3], ['stutter-filter', 3, 2]]) {
+    const tab = await open(t, `example=${name}`);
+    for (let inputs = 0; inputs < 4; inputs++) {
+      for (let moves = 0; moves <= most; moves++) {
+        const { time, path } = library.reactionMoves(tableOf(name), states, inputs, moves);
+        const said = await askReaction(tab, { states, inputs, moves });
+        assert.match(said, new RegExp(`^at most ${time}(tight|until)`), `${name} ${inputs} ${moves}`);
+        assert.equal(/tight/.test(said), moves === 1);
+        assert.deepEqual(await litPath(tab), ofPath(path), `${name} ${inputs} ${moves}`);
+      }
+    }
+  }
+  const tab = await open(t, 'example=watchdog');
+  assert.match(await askReaction(tab, { states: 7, inputs: 2, moves: 2 }),
+    /^at most 17until: alarm.* at most 17 over 2 moves until .*The longest way: 'quiet' under 'silence' to 'watch'\.$/);
+  assert.deepEqual(await litPath(tab), { states: ['0', '1'], edges: ['01'] });
+});
+
+test('the panel says in words why no reaction time is given', async (t) => {
+  const tab = await open(t, 'example=classroom');
+  assert.match(await askReaction(tab, { states: 2, inputs: 1 }),
+    /^refused 10 at 2The states do not hold together .* from 'busy' input 'no_train' leads to 'idle', which is not among them\. Add 'idle'/);
+  assert.match(await askReaction(tab, { states: 3, inputs: 1, moves: 33 }), /^refused 32 at 0.*33 moves were asked for; at most 32 are calculated/);
+  assert.deepEqual(await litPath(tab), { states: [], edges: [] });
+  await choose(tab, 'gas-burner');
+  assert.match(await tab.text('#reaction-answer'), /^refused 14 at 0This table has timers\./);
 });
 
 test('the link carries the texts, and a broken one does no harm', async (t) => {
@@ -424,9 +434,8 @@ test('words have the contrast that a projector needs, in light and dark', async 
   const tab = await open(t, 'example=changed-verdict');
   for (let dark = 0; dark < 2; dark++) {
     for (const name of ['classroom', 'changed-verdict', 'old-table', null]) {
-      if (name) await tab.value(`(() => { const list = document.getElementById('examples'); list.value = '${name}'; list.dispatchEvent(new Event('change')); })()`);
+      if (name) await choose(tab, name);
       else await setPane(tab, 'table', 'krossvil table\ncycle x\n');
-      await tab.frames();
       if (name === 'changed-verdict') for (let k = 0; k < 4; k++) await tab.click('#next');
       const { count, faint } = await tab.value(FAINT);
       assert.ok(count > 20, `${count}`);
