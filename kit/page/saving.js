@@ -4,8 +4,8 @@ import { automaton, automatonDot } from '../automaton.js';
 import { diagram } from '../diagram.js';
 import { MEANINGS } from '../explain.js';
 import { vcd } from '../vcd.js';
-import { save } from './dom.js';
 import { joinTexts } from './documents.js';
+import { byId, fill, make, save } from './dom.js';
 
 /** @typedef {import('./workspace.js').Answers} Answers */
 /** @typedef {import('./workspace.js').Subject} Subject */
@@ -56,12 +56,29 @@ const bytes = (pane) => ({
 });
 
 /** @type {Saving[]} */
-export const SAVINGS = [
+const SAVINGS = [
   { label: 'All texts', can: () => true, save: ({ texts }) => save('krossvil.kv', joinTexts(texts), 'text/plain') },
   bytes('table'), bytes('stimulus'), bytes('journal'),
   { label: 'Timing diagram, SVG', can: hasSubject, save: (state) => save('krossvil-diagram.svg', slide(state), SVG) },
   { label: 'Timing diagram, PNG', can: hasSubject, save: (state) => saveDots('krossvil-diagram.png', slide(state)) },
-  { label: 'Automaton, SVG', can: hasTable, save: ({ answers, theme }) => answers.decoded && save('krossvil-automaton.svg', automaton(answers.decoded, { theme }), SVG) },
-  { label: 'Automaton, DOT', can: hasTable, save: ({ answers }) => answers.decoded && save('krossvil-automaton.dot', automatonDot(answers.decoded), 'text/plain') },
+  { label: 'Automaton, SVG', can: hasTable,
+    save: ({ answers, theme }) => answers.decoded && save('krossvil-automaton.svg', automaton(answers.decoded, { theme }), SVG) },
+  { label: 'Automaton, DOT', can: hasTable,
+    save: ({ answers }) => answers.decoded && save('krossvil-automaton.dot', automatonDot(answers.decoded), 'text/plain') },
   { label: 'Waves, VCD', can: hasSubject, save: ({ subject }) => subject && save('krossvil.vcd', vcd(subject.trace), 'text/plain') },
 ];
+
+/**
+ * The menu: what there is to save stands ready, the rest is out of use.
+ * @param {import('./page.js').Page} page
+ */
+export function listSavings({ texts, answers, subject, title, dark, step: { selected } }) {
+  /** @type {State} */
+  const state = { texts, answers, subject, title, selected, theme: dark ? 'dark' : 'light' };
+  fill(byId('save-list'), ...SAVINGS.map((saving) => make('button', {
+    type: 'button', disabled: !saving.can(state), onclick: () => {
+      saving.save(state);
+      byId('save').open = false;
+    },
+  }, saving.label)));
+}

@@ -1,0 +1,44 @@
+/** The page's address carries the texts: it can be handed on, and a reload loses nothing. */
+
+import { joinTexts } from './documents.js';
+import { byId } from './dom.js';
+import { toHash } from './link.js';
+
+/** @typedef {import('./page.js').Page} Page */
+
+const LINK_MOST = 30000;
+
+/** @param {Page} page */
+export async function carry(page) {
+  const hash = await toHash(joinTexts(page.texts));
+  setAddress(page, hash.length <= LINK_MOST ? hash : '');
+}
+
+/** @param {Page} page @param {string} hash */
+export function setAddress(page, hash) {
+  page.hash = `#${hash}`;
+  try {
+    history.replaceState(null, '', page.hash);
+  } catch {
+    // A browser that does not allow it has the link's window still.
+  }
+}
+
+/** @param {Page} page */
+export async function showLink(page) {
+  const address = location.href.replace(/#.*$/, '');
+  byId('link-text').value = `${address}#${await toHash(joinTexts(page.texts))}`;
+  byId('link-box').showModal();
+  byId('link-text').select();
+  byId('link-text').scrollTop = 0;
+}
+
+export async function copyLink() {
+  byId('link-text').select();
+  try {
+    await navigator.clipboard.writeText(byId('link-text').value);
+  } catch {
+    document.execCommand('copy');
+  }
+  byId('link-box').close();
+}

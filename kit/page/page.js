@@ -1,0 +1,170 @@
+/** The page itself: its three texts, the library's answer about them, and which record is looked at. */
+
+import { recordLine } from '../notation.js';
+import { carry } from './address.js';
+import { sayAnswer, showAnswer, subjectOf } from './answer.js';
+import { noTexts } from './documents.js';
+import { byId, fill } from './dom.js';
+import { draw, lookOf } from './drawing.js';
+import { Editor } from './editor.js';
+import { sayStep } from './machine.js';
+import { markTexts, showBadges, showFoot } from './marks.js';
+import { ReactionPanel } from './reaction.js';
+import { lookAtLine } from './stepping.js';
+import { PANES, ask } from './workspace.js';
+
+/** @typedef {import('../types.js').Library} Library */
+/** @typedef {import('./workspace.js').Pane} Pane */
+/** @typedef {import('./workspace.js').Texts} Texts */
+/** @typedef {import('./workspace.js').Spot} Spot */
+/** @typedef {import('./workspace.js').Subject} Subject */
+/** @typedef {import('../examples.js').Example & {text: string}} Sample */
+
+const LINK_LATER = 400;
+const SPEAK_LATER = 700;
+const UNDO_MOST = 30;
+
+export class Page {
+  /**
+   * @param {Library} library @param {Sample[]} samples
+   * @param {string} opens  the example that is shown where the address carries nothing else
+   */
+  constructor(library, samples, opens) {
+    this.library = library;
+    this.samples = samples;
+    this.opens = opens;
+    this.title = 'A journal';
+    /** @type {Pane} */
+    this.pane = 'journal';
+    /** @type {{selected: number|null, stepping: boolean}} */
+    this.step = { selected: null, stepping: false };
+    /** @type {Texts[]} */
+    this.undo = [];
+    this.hash = '';
+    /** @type {Map<string, any>} */
+    this.waiting = new Map();
+    this.large = false;
+    this.dark = false;
+    this.editors = /** @type {Record<Pane, Editor>} */ (Object.fromEntries(PANES.map((pane) => [pane, this.#editor(pane)])));
+    this.answers = ask(library, noTexts());
+    /** @type {Subject|null} */
+    this.subject = null;
+    this.said = sayAnswer(this.answers, null);
+    this.reaction = new ReactionPanel(library, {
+      states: byId('reaction-states'), inputs: byId('reaction-inputs'), moves: byId('reaction-moves'),
+      answer: byId('reaction-answer'), picture: byId('reaction-picture'),
+    }, () => lookOf(this, byId('reaction-panel')));
+  }
+
+  /** @param {Pane} pane */
+  #editor(pane) {
+    return new Editor(byId(`pane-${pane}`), {
+      label: `The ${pane}, as text`, describedBy: 'pane-says',
+      onInput: () => this.#typed(), onCaret: (line) => lookAtLine(this, pane, line),
+    });
+  }
+
+  /** @returns {Texts} */
+  get texts() {
+    return { table: this.editors.table.value, stimulus: this.editors.stimulus.value, journal: this.editors.journal.value };
+  }
+
+  /** Something was typed: the answer comes at once, pictures with the next frame. */
+  #typed() {
+    byId('examples').value = '';
+    this.notice('');
+    this.step = { selected: null, stepping: false };
+    this.answer();
+    this.later('link', LINK_LATER, () => carry(this));
+  }
+
+  /**
+   * @param {string} what  whatever waits under this name waits no longer
+   * @param {number} delay @param {() => void} then
+   */
+  later(what, delay, then) {
+    clearTimeout(this.waiting.get(what));
+    this.waiting.set(what, setTimeout(then, delay));
+  }
+
+  /**
+   * Texts from elsewhere in the place of those that are there.
+   * @param {Texts} texts @param {Pane} pane
+   */
+  replace(texts, pane) {
+    this.undo = [...this.undo, this.texts].slice(-UNDO_MOST);
+    this.#put(texts, pane);
+    this.later('link', LINK_LATER, () => carry(this));
+  }
+
+  /** @param {Texts} texts @param {Pane} pane */
+  #put(texts, pane) {
+    for (const each of PANES) this.editors[each].value = texts[each];
+    byId('undo').hidden = this.undo.length === 0;
+    this.step = { selected: null, stepping: false };
+    fill(byId('tool-answer'));
+    this.turnTo(pane);
+    this.answer();
+  }
+
+  takeBack() {
+    const texts = this.undo.pop();
+    if (texts) this.#put(texts, this.pane);
+  }
+
+  /** @param {Pane} pane */
+  turnTo(pane) {
+    this.pane = pane;
+    for (const each of PANES) {
+      const tab = byId(`tab-${each}`);
+      tab.setAttribute('aria-selected', String(each === pane));
+      tab.tabIndex = each === pane ? 0 : -1;
+      byId(`pane-${each}`).hidden = each !== pane;
+    }
+  }
+
+  /** @param {Pane} pane */
+  look(pane) {
+    this.turnTo(pane);
+    this.step = { selected: null, stepping: false };
+    this.answer();
+  }
+
+  /** @param {Spot} spot */
+  go(spot) {
+    this.turnTo(spot.pane);
+    this.editors[spot.pane].go(spot);
+    this.answer();
+  }
+
+  /** Asks the library about all texts, and shows what it says. */
+  answer() {
+    this.answers = ask(this.library, this.texts);
+    this.subject = this.answers.reading.mistakes.length > 0 ? null : subjectOf(this.answers, this.pane);
+    const said = sayAnswer(this.answers, this.subject);
+    this.said = said;
+    this.say();
+    const spoken = `${said.about}: ${said.line}. ${said.sentences[0] ?? said.mistakes[0]?.says ?? ''}`;
+    this.later('spoken', SPEAK_LATER, () => fill(byId('spoken'), spoken));
+    showBadges(this.answers);
+    showFoot(this);
+    markTexts(this);
+    cancelAnimationFrame(this.waiting.get('frame'));
+    this.waiting.set('frame', requestAnimationFrame(() => draw(this)));
+  }
+
+  /** The answer; or, where one goes through the records, a sentence about the one that is looked at. */
+  say() {
+    const { subject, said, step: { selected } } = this;
+    const step = subject && selected !== null ? subject.trace.steps[selected] : null;
+    const says = step && subject ? sayStep(subject.trace, step) : null;
+    fill(byId('step-short'), step ? says ?? said.sentences.join(' ') : '');
+    const record = step && subject ? recordLine(step.record, subject.trace.names).trim().replace(/\s+/g, ' ') : '';
+    showAnswer(byId('answer'), said, (spot) => this.go(spot), says === null ? null : { record: `${record}:`, says });
+  }
+
+  /** @param {string} says */
+  notice(says) {
+    fill(byId('notice'), says);
+  }
+}
