@@ -76,13 +76,13 @@ export function sayAnswer(answers, subject) {
       spot, says: `${PANE_NAMES[spot.pane]}, line ${spot.line}: ${spot.says}`,
     }));
     const line = count === 1 ? 'A mistake in the text' : `${counted(count, 'mistake')} in the texts`;
-    return { ...NOTHING, look: 'mistake', line, about: 'not asked', mistakes };
+    return { ...NOTHING, look: 'mistake', line, about: 'not asked', meaning: 'the pictures wait until this is mended', mistakes };
   }
   if (reading.table && tableRefused && tableExplanation) {
     return refused(answers, tableRefused, tableExplanation, reading.table, 'table', tableExplanation.blame.place);
   }
   if (subject) return sayOf(answers, subject);
-  const sentences = decoded ? ['The table passes. Write a journal or a stimulus, or ask for a reaction time.'] : ['Write a table, or open an example.'];
+  const sentences = [decoded ? 'The table passes. Write a journal or a stimulus, or ask for a reaction time.' : 'Write a table, or open an example.'];
   return { ...NOTHING, look: decoded ? 'accepted' : 'quiet', line: decoded ? 'accepted' : 'No table yet', about: 'table', sentences };
 }
 
@@ -96,7 +96,7 @@ export function showAnswer(room, said, go, step = null) {
   const where = spot && make('button', { class: 'plain', id: 'go', onclick: () => go(spot) }, `line ${spot.line}`);
   fill(room,
     make('p', { class: 'line' }, make('span', { class: 'about' }, about), make('strong', { id: 'verdict' }, line),
-      meaning && make('span', { class: 'meaning' }, meaning), where),
+      where, meaning && make('span', { class: 'meaning' }, meaning)),
     step && make('p', { class: 'sentences', id: 'step-says' }, make('strong', { class: 'at-record' }, step.record), ` ${step.says}`),
     !step && sentences.length > 0 && make('p', { class: 'sentences' }, sentences.join(' ')),
     !step && slip && make('p', { class: 'slip' }, slip),

@@ -37,13 +37,13 @@ export function fill(element, ...children) {
 }
 
 /**
- * A picture in the place of what the element shows.
+ * A picture in the place of what the element shows. One that was shrunk to its room is shown in full size, so that its words can be read.
  * @param {Element} element @param {string} svg @param {number} [scale]  so many times as large as it was drawn
  */
 export function show(element, svg, scale = 1) {
-  const parsed = new DOMParser().parseFromString(svg, 'image/svg+xml').documentElement;
+  const parsed = /** @type {any} */ (new DOMParser().parseFromString(svg, 'image/svg+xml').documentElement);
   const picture = document.importNode(parsed, true);
-  picture.style.width = `${scale * parseFloat(parsed.getAttribute('width') ?? '0')}px`;
+  picture.style.width = `${Math.max(scale * parsed.width.baseVal.value, parsed.viewBox.baseVal.width)}px`;
   element.replaceChildren(picture);
 }
 

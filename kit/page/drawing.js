@@ -10,12 +10,15 @@ import { showTools } from './toolbox.js';
 import { PANES } from './workspace.js';
 
 /** @typedef {import('./page.js').Page} Page */
-/** @typedef {import('./workspace.js').Answers} Answers */
+/** @typedef {import('../types.js').Table} Table */
 /** @typedef {import('../types.js').Trace} Trace */
 /** @typedef {import('../types.js').Step} Step */
 
-const BESIDE_MOST = 4;
 const LARGER = 1.25;
+/** A diagram that is drawn for less than this width has smaller words, and is shown larger. */
+const NARROW = { width: 700, scale: 1.1 };
+/** So many lines of the text in hand stay in sight. */
+const LINES_LEAST = 5;
 
 /**
  * How wide a picture is drawn: in large type it is drawn smaller, and then shown as wide.
@@ -44,22 +47,33 @@ export function draw(page) {
   }
   page.reaction.update(answers);
   for (const room of document.querySelectorAll('#diagram, #machine, .stepping')) room.toggleAttribute('hidden', !subject);
-  placeAutomaton(answers);
+  placeAutomaton(page);
   byId('pictures').hidden = !subject && byId('automaton-below').hidden;
   byId('reaction-panel').hidden = !answers.decoded;
   drawStep(page);
 }
 
 /**
- * A small automaton stands below the texts, where there are two columns; a large one needs more room.
- * @param {Answers} answers
+ * Below the texts, where there are two columns and the automaton has room there; else below the machine.
+ * @param {Page} page
  */
-function placeAutomaton({ decoded }) {
-  const beside = (decoded?.counts.states ?? 0) <= BESIDE_MOST && matchMedia('(min-width: 901px)').matches;
-  const slot = byId(beside ? 'automaton-beside' : 'automaton-below');
-  if (byId('automaton').parentElement !== slot) slot.append(byId('automaton'));
-  byId('automaton-beside').hidden = !beside || !decoded;
-  byId('automaton-below').hidden = beside || !decoded;
+function placeAutomaton(page) {
+  const { decoded } = page.answers;
+  const slots = [byId('automaton-beside'), byId('automaton-below')];
+  for (const slot of slots) slot.hidden = !decoded;
+  if (!decoded) return;
+  slots[0].append(byId('automaton'));
+  drawAutomaton(page, decoded);
+  const k = fitsBeside(page) ? 0 : 1;
+  slots[k].append(byId('automaton'));
+  slots[1 - k].hidden = true;
+}
+
+/** @param {Page} page */
+function fitsBeside({ editors, pane }) {
+  if (!matchMedia('(min-width: 901px)').matches) return false;
+  const { scrollWidth, clientWidth } = byId('automaton');
+  return scrollWidth <= clientWidth && editors[pane].linesInSight() >= LINES_LEAST;
 }
 
 /**
@@ -85,17 +99,26 @@ export function drawStep(page) {
     showMachine(byId('machine'), subject.trace, step);
     showWhere(subject.trace, page.step.selected);
   }
-  if (answers.decoded) {
-    const { scale, ...look } = lookOf(page, byId('automaton'));
-    show(byId('automaton'), automaton(answers.decoded, { lit: litAt(step), ...look }), scale);
-  }
+  if (answers.decoded) drawAutomaton(page, answers.decoded);
+}
+
+/** @param {Page} page @param {Table} table */
+function drawAutomaton(page, table) {
+  const { scale, ...look } = lookOf(page, byId('automaton'));
+  show(byId('automaton'), automaton(table, { lit: litAt(shownStep(page)), ...look }), scale);
+}
+
+/** @param {Page} page */
+function diagramLook(page) {
+  const look = lookOf(page, byId('diagram'));
+  return page.large || look.width >= NARROW.width ? look : { ...look, width: Math.floor(look.width / NARROW.scale), scale: NARROW.scale };
 }
 
 /** @param {Page} page @param {Trace} trace */
 function drawDiagram(page, trace) {
   const { title, step: { selected, stepping } } = page;
   const says = (/** @type {Step} */ step) => narrate(trace, step);
-  const { scale, ...look } = lookOf(page, byId('diagram'));
+  const { scale, ...look } = diagramLook(page);
   const options = { head: false, legend: !stepping, selected, step: stepping, narrate: says, id: 'page', title, ...look };
   show(byId('diagram'), diagram(trace, options), scale);
 }

@@ -80,6 +80,11 @@ export class Editor {
     this.reveal(line);
   }
 
+  linesInSight() {
+    const { height, shift } = this.#measure();
+    return (this.field.clientHeight - shift) / height;
+  }
+
   #measure() {
     const style = getComputedStyle(this.field);
     return { height: parseFloat(style.lineHeight) || 20, shift: parseFloat(style.paddingTop) || 0 };

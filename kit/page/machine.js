@@ -83,5 +83,6 @@ export function showMachine(room, trace, step) {
  */
 function cell(name, value, changed) {
   const wide = /^(hold|timer)/.test(name);
-  return make('div', { class: `${changed ? 'changed' : ''} ${wide ? 'wide' : ''}` }, make('dt', {}, name), make('dd', {}, value, changed && make('span', { class: 'unseen' }, ' (changed)')));
+  const words = make('dd', {}, value, changed && make('span', { class: 'unseen' }, ' (changed)'));
+  return make('div', { class: `${changed ? 'changed' : ''} ${wide ? 'wide' : ''}` }, make('dt', {}, name), words);
 }

@@ -53,7 +53,7 @@ export class Page {
     this.reaction = new ReactionPanel(library, {
       states: byId('reaction-states'), inputs: byId('reaction-inputs'), moves: byId('reaction-moves'),
       answer: byId('reaction-answer'), picture: byId('reaction-picture'),
-    }, () => lookOf(this, byId('reaction-panel')));
+    }, () => lookOf(this, byId('reaction-picture')));
   }
 
   /** @param {Pane} pane */

@@ -74,6 +74,7 @@ export class ReactionPanel {
     if (key === this.made) return;
     this.made = key;
     this.sets = { states: wholeSet(counts.states), inputs: 1 };
+    this.rooms.moves.value = '1';
     this.#set('states', names.states);
     this.#set('inputs', names.inputs);
   }

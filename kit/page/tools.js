@@ -1,6 +1,6 @@
 /** What can be done with the table and the journal beside checking: each is one function of the library, and its result can be kept. */
 
-import { sayConverted, saySalvage } from '../answers.js';
+import { refusalLine, sayConverted, saySalvage } from '../answers.js';
 import { explainJournal, explainRefusal } from '../explain.js';
 import { nameOf } from '../name-of.js';
 import { counted, say } from '../names.js';
@@ -51,8 +51,8 @@ function bytesOf({ reading }) {
  * @returns {Result}
  */
 function refusal({ reading }, refusal, trace) {
-  const { sentences } = explainRefusal(refusal, { tableBytes: reading.table?.bytes ?? new Uint8Array(), names: reading.names ?? undefined, trace: trace ?? undefined });
-  return { line: `refused ${refusal.number} at ${refusal.place}`, sentences };
+  const { sentences } = explainRefusal(refusal, { tableBytes: reading.table?.bytes ?? new Uint8Array(), names: reading.names, trace });
+  return { line: refusalLine(refusal), sentences };
 }
 
 /** @param {Form} form */
@@ -116,13 +116,17 @@ function compare(library, answers) {
   const { table, given } = bytesOf(answers);
   const answer = rerun(library, { table, journal: given, form: trace.form });
   if (!answer) return { sentences: ['Something in this journal is no record, so it has no stimulus to run.'] };
-  if (!answer.ok) return { sentences: [say`The inputs and times of this journal cannot be run: refusal ${answer.number} at record ${answer.record}.`] };
-  const list = answer.differences.slice(0, 20).map(({ number, record, own }) => ({
-    line: lines[number], says: say`The ${record.kind} at ${record.time} says ${valueName(trace, record.kind, record.value)}; in the run it is ${valueName(trace, record.kind, own)}.`,
-  }));
+  if (!answer.ok) {
+    return { sentences: [say`The inputs and times of this journal cannot be run: refusal ${answer.number} at record ${answer.record}.`] };
+  }
+  const list = answer.differences.slice(0, 20).map(({ number, record, own }) => {
+    const [says, is] = [record.value, own].map((value) => valueName(trace, record.kind, value));
+    return { line: lines[number], says: say`The ${record.kind} at ${record.time} says ${says}; in the run it is ${is}.` };
+  });
   const count = answer.differences.length;
+  const differ = say`${counted(count, 'record')} of the journal ${count === 1 ? 'differs' : 'differ'} from its run.`;
   const sentences = [count === 0 ? 'The run of the same inputs and times gives this very journal.'
-    : say`The runtime was given the same inputs and times. ${counted(count, 'record')} of the journal ${count === 1 ? 'differs' : 'differ'} from its run.`];
+    : say`The runtime was given the same inputs and times. ${differ}`];
   return { sentences, list, made: journal(answers, answer.bytes, 'journal', 'run.journal') };
 }
 
@@ -150,12 +154,14 @@ export const TOOLS = [
   { id: 'compare', label: 'Compare with the run', says: 'Every record that differs from the run of the same inputs and times, not only the first.',
     fits: ({ journal: subject }) => subject !== null, use: compare },
   { id: 'salvage', label: 'Salvage', says: 'What is sound of a torn journal, up to its last tick, with an end.',
-    fits: ({ journal: subject }) => subject !== null && subject.trace.refused !== null && (subject.trace.form === 'journal' || subject.trace.long !== null),
+    fits: ({ journal: subject }) => Boolean(subject?.trace.refused) && (subject?.trace.form === 'journal' || subject?.trace.long !== null),
     use: salvage },
   { id: 'unstamp', label: 'Write out the stamps', says: 'The long journal of one whose times are stamps of 16 bits.',
-    fits: isForm('stamped'), use: rewriting((library, _, given) => library.readStamped(given), 'journal', 'The stamps are written out as times.', 'unstamped.journal') },
+    fits: isForm('stamped'),
+    use: rewriting((library, _, given) => library.readStamped(given), 'journal', 'The stamps are written out as times.', 'unstamped.journal') },
   { id: 'lengthen', label: 'Write out the gaps', says: 'The long journal that a short one stands for.',
-    fits: isForm('short'), use: rewriting((library, table, given) => library.lengthen(table, given), 'journal', 'The gaps are written out as times.', 'long.journal') },
+    fits: isForm('short'),
+    use: rewriting((library, table, given) => library.lengthen(table, given), 'journal', 'The gaps are written out as times.', 'long.journal') },
   { id: 'shorten', label: 'Shorten', says: 'The same journal with gaps of two bytes in the place of times.',
     fits: (answers) => isForm('journal')(answers) && answers.journal?.trace.refused === null,
     use: rewriting((library, table, given) => library.shorten(table, given), 'short', 'The times are written as gaps.', 'short.journal') },

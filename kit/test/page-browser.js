@@ -8,12 +8,16 @@ import { join } from 'node:path';
 const FLAGS = ['--headless=new', '--no-sandbox', '--disable-gpu', '--remote-debugging-pipe', '--no-first-run', '--disable-extensions',
   '--disable-background-networking', '--disable-component-update', '--disable-dev-shm-usage', '--hide-scrollbars'];
 const PATIENCE = 60000;
+const KEYS = {
+  ArrowLeft: 37, ArrowRight: 39, ArrowUp: 38, ArrowDown: 40, Home: 36, End: 35, Escape: 27, Tab: 9, Enter: 13, Backspace: 8, ' ': 32,
+};
 
 export class Browser {
   /** @param {string} [program] */
   constructor(program = 'chromium') {
     this.profile = mkdtempSync(join(tmpdir(), 'krossvil-page-'));
-    this.child = spawn('nice', [program, ...FLAGS, `--user-data-dir=${this.profile}`, 'about:blank'], { stdio: ['ignore', 'ignore', 'ignore', 'pipe', 'pipe'] });
+    const stdio = ['ignore', 'ignore', 'ignore', 'pipe', 'pipe'];
+    this.child = spawn('nice', [program, ...FLAGS, `--user-data-dir=${this.profile}`, 'about:blank'], { stdio });
     this.ended = new Promise((resolve) => this.child.on('close', resolve));
     this.number = 0;
     this.calls = new Map();
@@ -132,8 +136,7 @@ export class Tab {
   }
 
   async key(key, code = key) {
-    const numbers = { ArrowLeft: 37, ArrowRight: 39, ArrowUp: 38, ArrowDown: 40, Home: 36, End: 35, Escape: 27, Tab: 9, Enter: 13, Backspace: 8, ' ': 32 };
-    const params = { key, code, windowsVirtualKeyCode: numbers[key] ?? 0, text: key === 'Enter' ? '\r' : undefined };
+    const params = { key, code, windowsVirtualKeyCode: KEYS[key] ?? 0, text: key === 'Enter' ? '\r' : undefined };
     await this.send('Input.dispatchKeyEvent', { type: 'keyDown', ...params });
     await this.send('Input.dispatchKeyEvent', { type: 'keyUp', ...params });
     await this.frames();

@@ -101,7 +101,8 @@ test('every tool works on what it offers itself for', () => {
 
 test('typing leaves every text readable or says what is wrong, and never throws', () => {
   const chance = new Chance(9);
-  const pieces = ['krossvil', ' ', '\n', 'journal', '"', '#', '->', '99999999999', 'bytes 00', '\u202e', '<b>', 'hold', ',', '\t', 'krossvil table\n', '\u0000', '+1', '\ud800'];
+  const pieces = ['krossvil', ' ', '\n', 'journal', '"', '#', '->', '99999999999', 'bytes 00', '\u202e', '<b>', 'hold', ',', '\t',
+    'krossvil table\n', '\u0000', '+1', '\ud800'];
   for (let k = 0; k < 1500; k++) {
     const texts = { ...noTexts(), ...splitText(sample(chance.pick(EXAMPLES).name)) };
     for (let edits = chance.between(1, 3); edits > 0; edits--) {
@@ -111,14 +112,17 @@ test('typing leaves every text readable or says what is wrong, and never throws'
     }
     const answers = ask(library, texts);
     const { said } = lookAt(answers, chance.pick(PANES));
-    for (const { spot } of said.mistakes) assert.ok(spot.line >= 1 && spot.line <= texts[spot.pane].split('\n').length, JSON.stringify([texts, spot]));
+    for (const { spot } of said.mistakes) {
+      assert.ok(spot.line >= 1 && spot.line <= texts[spot.pane].split('\n').length, JSON.stringify([texts, spot]));
+    }
   }
 });
 
 test('a pane without its heading is told so, and does not spoil the others', () => {
   const texts = { ...noTexts(), ...splitText(sample('classroom')) };
   const reading = readPanes({ ...texts, journal: '# mine\n 1 poll train\n' });
-  assert.deepEqual(reading.mistakes.map(({ pane, line, says }) => [pane, line, says]), [['journal', 2, 'this text begins with the words: krossvil journal']]);
+  assert.deepEqual(reading.mistakes.map(({ pane, line, says }) => [pane, line, says]),
+    [['journal', 2, 'this text begins with the words: krossvil journal']]);
   assert.ok(reading.table && reading.stimulus && !reading.journal);
   assert.deepEqual(readPanes({ ...noTexts(), journal: 'x' }).mistakes.length, 1);
 });

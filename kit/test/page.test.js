@@ -9,6 +9,7 @@ import { after, before, test } from 'node:test';
 import { fileURLToPath } from 'node:url';
 import { acceptanceLine, refusalLine } from '../answers.js';
 import { EXAMPLES } from '../examples.js';
+import { plainNames } from '../names.js';
 import { readText, recordsText, tableText } from '../notation.js';
 import { traceJournal } from '../trace.js';
 import { library, sample } from './core.js';
@@ -79,7 +80,9 @@ async function setPane(tab, pane, text) {
 /** Drops files on the page, as bytes. */
 async function drop(tab, files) {
   await tab.value(`(() => { const carried = new DataTransfer();
-    for (const [name, bytes] of ${JSON.stringify(files.map(([name, bytes]) => [name, [...bytes]]))}) carried.items.add(new File([new Uint8Array(bytes)], name));
+    for (const [name, bytes] of ${JSON.stringify(files.map(([name, bytes]) => [name, [...bytes]]))}) {
+      carried.items.add(new File([new Uint8Array(bytes)], name));
+    }
     document.body.dispatchEvent(new DragEvent('drop', { dataTransfer: carried, bubbles: true, cancelable: true })); })()`);
   await tab.until(`document.getElementById('notice').textContent.includes(${JSON.stringify(files[0][0])})`);
   await tab.frames();
@@ -92,8 +95,9 @@ test('every example opens with the answer of the library', async (t) => {
   for (const { name } of EXAMPLES) {
     await choose(tab, name);
     assert.equal(await tab.text(VERDICT), expected(name), name);
-    const rings = await tab.value("document.querySelector('#pictures').hidden ? null : document.querySelectorAll('#diagram:not([hidden]) .refused-record').length");
-    if (rings !== null) assert.equal(rings, expected(name).startsWith('refused') ? 1 : 0, name);
+    const hidden = await tab.value("document.querySelector('#pictures').hidden");
+    const rings = await tab.value("document.querySelectorAll('#diagram:not([hidden]) .refused-record').length");
+    if (!hidden) assert.equal(rings, expected(name).startsWith('refused') ? 1 : 0, name);
     assert.equal(await tab.value('location.hash'), `#example=${name}`);
   }
 });
@@ -188,7 +192,8 @@ test('files are dropped, as bytes and as text', async (t) => {
   assert.equal(await tab.text(VERDICT), 'refused 28 at 76');
   assert.match(await paneText(tab, 'stimulus'), /change i1/, 'the old stimulus, in the words of the new table');
   assert.equal(await paneText(tab, 'table'), tableText(bytes('table')));
-  assert.equal(await paneText(tab, 'journal'), recordsText(bytes('journal'), 'journal', { states: ['q0', 'q1'], inputs: ['i0', 'i1'], outputs: ['o0', 'o1'], timers: [] }));
+  const plain = plainNames({ states: 2, inputs: 2, outputs: 2 }, 0);
+  assert.equal(await paneText(tab, 'journal'), recordsText(bytes('journal'), 'journal', plain));
   await drop(tab, [['classroom.kv', Buffer.from(sample('classroom'))]]);
   assert.equal(await tab.text(VERDICT), expected('classroom'));
   await drop(tab, [['again.journal', bytes('journal')]]);
@@ -197,7 +202,8 @@ test('files are dropped, as bytes and as text', async (t) => {
 
 test('any bytes that are dropped give an answer, and come back as they were', async (t) => {
   const tab = await open(t, 'example=classroom');
-  const wild = [[], [0x10], [0x20, 0, 1, 9, 0x2f], [0x30, 0, 1], [0xff, 0xfe, 0], Array.from({ length: 70000 }, (_, k) => (k * 7919) % 256), [0x10, 0, 1, 0, ...Array(66000).fill(0x11)]];
+  const wild = [[], [0x10], [0x20, 0, 1, 9, 0x2f], [0x30, 0, 1], [0xff, 0xfe, 0], Array.from({ length: 70000 }, (_, k) => (k * 7919) % 256),
+    [0x10, 0, 1, 0, ...Array(66000).fill(0x11)]];
   for (const [k, bytes] of wild.entries()) {
     await drop(tab, [[`wild${k}`, bytes]]);
     const given = Uint8Array.from(bytes);
@@ -373,7 +379,8 @@ test('it fits a projector and a phone, in both sizes of type', async (t) => {
 test('on a projector the answer, the text, the diagram, the machine and the automaton are in sight while one steps', async (t) => {
   const tab = await open(t, 'example=changed-verdict', { width: 1280, height: 800 });
   for (let k = 0; k < 5; k++) await tab.click('#next');
-  const bottoms = await tab.value("['#answer', '.number.current', '#diagram', '#machine', '#automaton'].map((each) => document.querySelector(each).getBoundingClientRect().bottom)");
+  const bottoms = await tab.value(`['#answer', '.number.current', '#diagram', '#machine', '#automaton']
+    .map((each) => document.querySelector(each).getBoundingClientRect().bottom)`);
   assert.ok(Math.max(...bottoms) <= 800, bottoms.join());
 });
 
@@ -421,11 +428,13 @@ test('texts, bytes and pictures are saved', async (t) => {
 const FAINT = `(() => {
   const parts = (colour) => colour.match(/[\\d.]+/g).map(Number);
   const light = (colour) => parts(colour).slice(0, 3).map((each) => each / 255)
-    .map((each) => (each <= 0.03928 ? each / 12.92 : ((each + 0.055) / 1.055) ** 2.4)).reduce((sum, each, k) => sum + each * [0.2126, 0.7152, 0.0722][k], 0);
+    .map((each) => (each <= 0.03928 ? each / 12.92 : ((each + 0.055) / 1.055) ** 2.4))
+    .reduce((sum, each, k) => sum + each * [0.2126, 0.7152, 0.0722][k], 0);
   const ground = (element) => { for (let each = element; each; each = each.parentElement) { const colour = getComputedStyle(each).backgroundColor;
     if ((parts(colour)[3] ?? 1) > 0) return colour; } return 'rgb(255, 255, 255)'; };
-  const seen = [...document.querySelectorAll('body *')].filter((each) => !each.closest('svg, .stale, script, noscript, option, .unseen, .marks, :disabled')
-    && each.getClientRects().length > 0 && (each.matches('textarea') || [...each.childNodes].some((node) => node.nodeType === 3 && node.data.trim())));
+  const hasWords = (each) => each.matches('textarea') || [...each.childNodes].some((node) => node.nodeType === 3 && node.data.trim());
+  const seen = [...document.querySelectorAll('body *')].filter((each) => hasWords(each) && each.getClientRects().length > 0
+    && !each.closest('svg, .stale, script, noscript, option, .unseen, .marks, :disabled'));
   return { count: seen.length, faint: seen.map((each) => { const [a, b] = [light(getComputedStyle(each).color), light(ground(each))];
     return [each.outerHTML.slice(0, 80), (Math.max(a, b) + 0.05) / (Math.min(a, b) + 0.05)]; }).filter(([, ratio]) => ratio < 4.5) };
 })()`;
