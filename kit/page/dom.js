@@ -28,6 +28,15 @@ export function make(tag, attributes = {}, ...children) {
 }
 
 /**
+ * Closes a menu. The focus does not stay behind in what is hidden now.
+ * @param {any} menu  an element `details`
+ */
+export function closeMenu(menu) {
+  if (menu.open && menu.contains(document.activeElement)) menu.querySelector('summary').focus();
+  menu.open = false;
+}
+
+/**
  * Puts these children in the place of all others.
  * @param {Element} element @param {...(Child|Child[])} children
  */

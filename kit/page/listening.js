@@ -1,7 +1,7 @@
 /** What the reader does: buttons, tabs, keys, the diagram, files that are dropped. */
 
 import { copyLink, showLink } from './address.js';
-import { byId } from './dom.js';
+import { byId, closeMenu } from './dom.js';
 import { redraw } from './drawing.js';
 import { openExample, openFiles } from './opening.js';
 import { listSavings } from './saving.js';
@@ -52,7 +52,7 @@ function listenToChoices(page) {
   byId('examples').addEventListener('change', () => openExample(page, byId('examples').value));
   byId('save').addEventListener('toggle', () => byId('save').open && listSavings(page));
   document.addEventListener('click', (/** @type {any} */ event) => {
-    if (!event.target.closest('#save')) byId('save').open = false;
+    if (!event.target.closest('#save')) closeMenu(byId('save'));
   });
 }
 
@@ -83,7 +83,7 @@ function listenToKeys(page) {
   document.addEventListener('keydown', (event) => {
     const then = moves.get(event.key);
     const busy = event.target instanceof Element && event.target.closest('textarea, input, select, dialog, details[open]');
-    if (event.key === 'Escape') byId('save').open = false;
+    if (event.key === 'Escape') closeMenu(byId('save'));
     if (!then || busy || event.altKey || event.ctrlKey || event.metaKey || event.shiftKey) return;
     event.preventDefault();
     then();

@@ -5,7 +5,7 @@ import { diagram } from '../diagram.js';
 import { MEANINGS } from '../explain.js';
 import { vcd } from '../vcd.js';
 import { joinTexts } from './documents.js';
-import { byId, fill, make, save } from './dom.js';
+import { byId, closeMenu, fill, make, save } from './dom.js';
 
 /** @typedef {import('./workspace.js').Answers} Answers */
 /** @typedef {import('./workspace.js').Subject} Subject */
@@ -78,7 +78,7 @@ export function listSavings({ texts, answers, subject, title, dark, step: { sele
   fill(byId('save-list'), ...SAVINGS.map((saving) => make('button', {
     type: 'button', disabled: !saving.can(state), onclick: () => {
       saving.save(state);
-      byId('save').open = false;
+      closeMenu(byId('save'));
     },
   }, saving.label)));
 }

@@ -43,7 +43,10 @@ function keeping(page, { pane, text, bytes, file }) {
   const button = (/** @type {string} */ label, /** @type {() => void} */ onclick, /** @type {string|null} */ id = null) =>
     make('button', { type: 'button', id, onclick }, label);
   return [
-    button('Put it in the text', () => page.replace({ ...page.texts, [pane]: text }, pane), 'tool-put'),
+    button('Put it in the text', () => {
+      page.replace({ ...page.texts, [pane]: text }, pane);
+      byId(`tab-${pane}`).focus({ preventScroll: true });
+    }, 'tool-put'),
     button('Save as bytes', () => save(file, bytes)),
     button('Save as text', () => save(`${file}.kv`, text, 'text/plain')),
   ];

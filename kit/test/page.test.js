@@ -1,94 +1,15 @@
 /** The page in a browser: typed in, stepped through, given files; it answers as the library does, and asks the network for nothing. */
 
 import assert from 'node:assert/strict';
-import { execFileSync } from 'node:child_process';
 import { existsSync, mkdtempSync, readFileSync, rmSync } from 'node:fs';
 import { tmpdir } from 'node:os';
 import { join } from 'node:path';
-import { after, before, test } from 'node:test';
-import { fileURLToPath } from 'node:url';
-import { acceptanceLine, refusalLine } from '../answers.js';
+import { test } from 'node:test';
 import { EXAMPLES } from '../examples.js';
 import { plainNames } from '../names.js';
 import { readText, recordsText, tableText } from '../notation.js';
-import { traceJournal } from '../trace.js';
 import { library, sample } from './core.js';
-import { Browser } from './page-browser.js';
-
-const FILE = new URL('../../target/kit/krossvil.html', import.meta.url);
-
-/** @type {Browser} */
-let browser;
-/** @type {import('./page-browser.js').Tab[]} */
-const tabs = [];
-
-before(() => {
-  execFileSync(process.execPath, [fileURLToPath(new URL('../page/build', import.meta.url))]);
-  browser = new Browser();
-});
-
-after(async () => {
-  await browser.close();
-});
-
-/** A tab with an example; what it complained about and asked for is looked at when the test ends. */
-async function open(t, hash, size) {
-  const tab = await browser.open(`${FILE.href}#${hash}`, size);
-  tabs.push(tab);
-  t.after(async () => {
-    assert.deepEqual(tab.complaints, []);
-    assert.deepEqual(tab.requests.filter((url) => url.split('#')[0] !== FILE.href && !/^(blob|data):/.test(url)), []);
-    await tab.close();
-  });
-  return tab;
-}
-
-/** The parts of a sample, and the line that the library's answer makes. */
-function expected(name) {
-  const { parts, names } = readText(sample(name));
-  const table = parts.find(({ kind }) => kind === 'table').bytes;
-  const journal = parts.find(({ kind }) => ['journal', 'stamped', 'short'].includes(kind));
-  const checked = library.checkTable(table);
-  if (!checked.ok) return refusalLine(checked);
-  if (!journal) return 'accepted';
-  const trace = traceJournal(library, { table, journal: journal.bytes, form: journal.kind, names });
-  return trace.refused ? refusalLine(trace.refused) : acceptanceLine(trace.answer);
-}
-
-const VERDICT = '#verdict';
-
-/** Chooses an example from the list. */
-async function choose(tab, name) {
-  await tab.value(`(() => { const list = document.getElementById('examples'); list.value = ${JSON.stringify(name)};
-    list.dispatchEvent(new Event('change')); })()`);
-  await tab.frames();
-}
-
-/** Puts the caret behind the first place where a pane's text has these words. */
-async function caretBehind(tab, pane, words) {
-  await tab.click(`#tab-${pane}`);
-  await tab.value(`(() => { const field = document.querySelector('#pane-${pane} textarea'); field.focus();
-    const at = field.value.indexOf(${JSON.stringify(words)}) + ${words.length}; field.setSelectionRange(at, at); })()`);
-}
-
-async function setPane(tab, pane, text) {
-  await tab.value(`(() => { const field = document.querySelector('#pane-${pane} textarea'); field.value = ${JSON.stringify(text)};
-    field.dispatchEvent(new Event('input', { bubbles: true })); })()`);
-  await tab.frames();
-}
-
-/** Drops files on the page, as bytes. */
-async function drop(tab, files) {
-  await tab.value(`(() => { const carried = new DataTransfer();
-    for (const [name, bytes] of ${JSON.stringify(files.map(([name, bytes]) => [name, [...bytes]]))}) {
-      carried.items.add(new File([new Uint8Array(bytes)], name));
-    }
-    document.body.dispatchEvent(new DragEvent('drop', { dataTransfer: carried, bubbles: true, cancelable: true })); })()`);
-  await tab.until(`document.getElementById('notice').textContent.includes(${JSON.stringify(files[0][0])})`);
-  await tab.frames();
-}
-
-const paneText = (tab, pane) => tab.value(`document.querySelector('#pane-${pane} textarea').value`);
+import { FILE, VERDICT, allowSaving, caretBehind, choose, drop, expected, open, paneText, setPane } from './page-world.js';
 
 test('every example opens with the answer of the library', async (t) => {
   const tab = await open(t, 'example=classroom');
@@ -365,45 +286,11 @@ test('hostile names are shown and do no harm', async (t) => {
   assert.equal(await tab.value("document.querySelectorAll('img, main script').length"), 0);
 });
 
-test('it fits a projector and a phone, in both sizes of type', async (t) => {
-  for (const size of [{ width: 1280, height: 800 }, { width: 390, height: 844, phone: true }, { width: 320, height: 640, phone: true }]) {
-    const tab = await open(t, 'example=changed-verdict', size);
-    const wide = () => tab.value('document.documentElement.scrollWidth - innerWidth');
-    assert.ok(await wide() <= 0, `${size.width}`);
-    await tab.click('#large');
-    assert.ok(await wide() <= 0, `${size.width}, large`);
-    assert.ok(await tab.value("document.querySelector('#diagram svg').getBoundingClientRect().width <= innerWidth"));
-  }
-});
-
-test('on a projector the answer, the text, the diagram, the machine and the automaton are in sight while one steps', async (t) => {
-  const tab = await open(t, 'example=changed-verdict', { width: 1280, height: 800 });
-  for (let k = 0; k < 5; k++) await tab.click('#next');
-  const bottoms = await tab.value(`['#answer', '.number.current', '#diagram', '#machine', '#automaton']
-    .map((each) => document.querySelector(each).getBoundingClientRect().bottom)`);
-  assert.ok(Math.max(...bottoms) <= 800, bottoms.join());
-});
-
-test('every control can be reached by the keyboard and has a name', async (t) => {
-  const tab = await open(t, 'example=changed-verdict');
-  const { nodes } = await tab.send('Accessibility.getFullAXTree');
-  const controls = nodes.filter(({ role, ignored }) => !ignored && ['button', 'textbox', 'combobox', 'tab', 'checkbox', 'spinbutton'].includes(role?.value));
-  assert.ok(controls.length > 15);
-  for (const node of controls) assert.notEqual(node.name?.value ?? '', '', JSON.stringify(node));
-  const reached = new Set();
-  await tab.value('document.activeElement.blur()');
-  for (let k = 0; k < 40; k++) {
-    await tab.key('Tab');
-    reached.add(await tab.value("document.activeElement.id || document.activeElement.closest('[id]')?.id"));
-  }
-  for (const id of ['examples', 'open', 'link', 'large', 'tab-journal', 'pane-journal', 'run', 'go', 'tool-compare', 'reaction-states', 'first', 'next']) assert.ok(reached.has(id), `${id} of ${[...reached]}`);
-});
-
 test('texts, bytes and pictures are saved', async (t) => {
   const folder = mkdtempSync(join(tmpdir(), 'krossvil-saved-'));
   t.after(() => rmSync(folder, { recursive: true }));
   const tab = await open(t, 'example=changed-verdict');
-  await browser.send('Browser.setDownloadBehavior', { behavior: 'allow', downloadPath: folder });
+  await allowSaving(folder);
   const saved = async (label, name) => {
     await tab.click('#save summary');
     await tab.value(`[...document.querySelectorAll('#save-list button')].find((button) => button.textContent === ${JSON.stringify(label)}).click()`);
@@ -422,34 +309,4 @@ test('texts, bytes and pictures are saved', async (t) => {
   assert.match(String(await saved('Automaton, DOT', 'krossvil-automaton.dot')), /^digraph/);
   assert.match(String(await saved('Waves, VCD', 'krossvil.vcd')), /\$enddefinitions/);
   assert.equal((await saved('Timing diagram, PNG', 'krossvil-diagram.png')).subarray(1, 4).toString(), 'PNG');
-});
-
-/** In the page: every piece of text whose contrast to what it stands on is below 4.5. Pictures have colours and tests of their own. */
-const FAINT = `(() => {
-  const parts = (colour) => colour.match(/[\\d.]+/g).map(Number);
-  const light = (colour) => parts(colour).slice(0, 3).map((each) => each / 255)
-    .map((each) => (each <= 0.03928 ? each / 12.92 : ((each + 0.055) / 1.055) ** 2.4))
-    .reduce((sum, each, k) => sum + each * [0.2126, 0.7152, 0.0722][k], 0);
-  const ground = (element) => { for (let each = element; each; each = each.parentElement) { const colour = getComputedStyle(each).backgroundColor;
-    if ((parts(colour)[3] ?? 1) > 0) return colour; } return 'rgb(255, 255, 255)'; };
-  const hasWords = (each) => each.matches('textarea') || [...each.childNodes].some((node) => node.nodeType === 3 && node.data.trim());
-  const seen = [...document.querySelectorAll('body *')].filter((each) => hasWords(each) && each.getClientRects().length > 0
-    && !each.closest('svg, .stale, script, noscript, option, .unseen, .marks, :disabled'));
-  return { count: seen.length, faint: seen.map((each) => { const [a, b] = [light(getComputedStyle(each).color), light(ground(each))];
-    return [each.outerHTML.slice(0, 80), (Math.max(a, b) + 0.05) / (Math.min(a, b) + 0.05)]; }).filter(([, ratio]) => ratio < 4.5) };
-})()`;
-
-test('words have the contrast that a projector needs, in light and dark', async (t) => {
-  const tab = await open(t, 'example=changed-verdict');
-  for (let dark = 0; dark < 2; dark++) {
-    for (const name of ['classroom', 'changed-verdict', 'old-table', null]) {
-      if (name) await choose(tab, name);
-      else await setPane(tab, 'table', 'krossvil table\ncycle x\n');
-      if (name === 'changed-verdict') for (let k = 0; k < 4; k++) await tab.click('#next');
-      const { count, faint } = await tab.value(FAINT);
-      assert.ok(count > 20, `${count}`);
-      assert.deepEqual(faint, [], `${name}, ${dark}`);
-    }
-    await tab.click('#dark');
-  }
 });
