@@ -54,6 +54,18 @@ export function show(element, svg, scale = 1) {
   const picture = document.importNode(parsed, true);
   picture.style.width = `${Math.max(scale * parsed.width.baseVal.value, parsed.viewBox.baseVal.width)}px`;
   element.replaceChildren(picture);
+  revealLit(element);
+}
+
+/**
+ * A picture that is wider than its room is moved until the lit state is in sight.
+ * @param {Element} element
+ */
+function revealLit(element) {
+  const lit = element.scrollWidth > element.clientWidth && element.querySelector('.state.lit');
+  if (!lit) return;
+  const [room, state] = [element.getBoundingClientRect(), lit.getBoundingClientRect()];
+  if (state.left < room.left || state.right > room.right) element.scrollLeft += (state.left + state.right - room.left - room.right) / 2;
 }
 
 /**

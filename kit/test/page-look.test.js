@@ -52,6 +52,21 @@ test('no word is smaller than 12 pixels', async (t) => {
   }
 });
 
+test('a picture that is wider than a phone shows what is lit', async (t) => {
+  const tab = await open(t, 'example=classroom', PHONES[1]);
+  const sides = () => tab.value(`['#automaton', '#automaton .state.lit'].map((each) => document.querySelector(each).getBoundingClientRect())
+    .flatMap(({ left, right }) => [left, right])`);
+  assert.ok(await tab.value("document.getElementById('automaton').scrollWidth > document.getElementById('automaton').clientWidth"));
+  const states = new Set();
+  for (let k = 0; k < 16; k++) {
+    await tab.click('#next');
+    states.add(await tab.value("document.querySelector('#automaton .state.lit').dataset.state"));
+    const [left, right, from, to] = await sides();
+    assert.ok(from >= left && to <= right, `record ${k}: ${left} ${from} ${to} ${right}`);
+  }
+  assert.equal(states.size, 2);
+});
+
 /** In the page: every piece of text whose contrast to what it stands on is below 4.5. Pictures have colours and tests of their own. */
 const FAINT = `(() => {
   const parts = (colour) => colour.match(/[\\d.]+/g).map(Number);
