@@ -105,6 +105,13 @@ export class Page {
     fill(byId('tool-answer'));
     this.turnTo(pane);
     this.answer();
+    requestAnimationFrame(() => this.#revealWrong());
+  }
+
+  /** The line that is wrong comes in sight, once everything is drawn and the text has its height. */
+  #revealWrong() {
+    const spot = this.said.spot ?? this.said.mistakes[0]?.spot;
+    if (spot?.pane === this.pane) this.editors[this.pane].reveal(spot.line);
   }
 
   takeBack() {

@@ -30,6 +30,18 @@ test('on a projector the answer, the text, the diagram, the machine and the auto
   }
 });
 
+test('the line that is wrong is in sight when an example opens', async (t) => {
+  for (const size of [PROJECTOR, PHONES[0]]) {
+    const tab = await open(t, 'example=classroom', size);
+    for (const name of ['changed-verdict', 'quarry', 'slip-hold-restarted', 'slip-wrong-instant']) {
+      await choose(tab, name);
+      const [editor, line] = await tab.value(`['#pane-journal', '#pane-journal .number.refused'].map((each) => {
+        const { top, bottom } = document.querySelector(each)?.getBoundingClientRect() ?? {}; return { top, bottom }; })`);
+      assert.ok(line.top >= editor.top && line.bottom <= editor.bottom, `${name}, ${size.width}: ${JSON.stringify([editor, line])}`);
+    }
+  }
+});
+
 /** In the page: every element that has words of its own, and is seen. */
 const WORDS = `[...document.querySelectorAll('body *')].filter((each) => each.getClientRects().length > 0
   && (each.matches('textarea') || [...each.childNodes].some((node) => node.nodeType === 3 && node.data.trim()))
