@@ -18,6 +18,14 @@ function named(names, set) {
 }
 
 /**
+ * As: 'idle' or 'busy'.
+ * @param {string[]} names @param {number} set
+ */
+function either(names, set) {
+  return listed(members(set).map((member) => quoted(names, member)), 'or') || 'none of them';
+}
+
+/**
  * The line that the program `checkjournal` prints.
  * @param {Acceptance} answer
  */
@@ -79,12 +87,12 @@ export function sayLeft(trace) {
  * @returns {string[]}
  */
 export function sayReaction({ names }, question, answer) {
-  const [states, inputs] = [named(names.states, question.states), named(names.inputs, question.inputs)];
+  const [states, inputs] = [either(names.states, question.states), either(names.inputs, question.inputs)];
   const over = question.moves === undefined ? '' : say` over ${counted(question.moves, 'move')}`;
   const sentences = [answer.target === 0
-    ? say`That the state is one of ${states} and the input one of ${inputs} never lasts for ${answer.time}${over}: no state is left to be in.`
-    : say`As long as the state is one of ${states} and the input one of ${inputs}, it takes at most ${answer.time}${over} `
-      + say`until the state is one of ${named(names.states, answer.target)}.`];
+    ? say`That the state is ${states} and the input is ${inputs} never lasts for ${answer.time}${over}: no state is left to be in.`
+    : say`As long as the state is ${states} and the input is ${inputs}, it takes at most ${answer.time}${over} `
+      + say`until the state is ${either(names.states, answer.target)}.`];
   if (answer.tight !== undefined) sentences.push(say`In whole units ${answer.tight} is enough.`);
   return sentences;
 }

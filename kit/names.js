@@ -39,12 +39,12 @@ export function quoted(list, k) {
 }
 
 /**
- * @param {string[]} words
+ * @param {string[]} words @param {string} [joint]
  * @returns {string} "a", "a and b", "a, b and c"
  */
-export function listed(words) {
+export function listed(words, joint = 'and') {
   if (words.length < 2) return words.join('');
-  return `${words.slice(0, -1).join(', ')} and ${words[words.length - 1]}`;
+  return `${words.slice(0, -1).join(', ')} ${joint} ${words[words.length - 1]}`;
 }
 
 /**
