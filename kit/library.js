@@ -98,10 +98,8 @@ class Module {
    * @returns {any}
    */
   call(name, args, names) {
-    const entry = this.exports[name];
-    if (!entry) throw new Error(`this library has no ${name}`);
     if (names.length > 0) args.push(this.lend('answer'));
-    const code = BigInt.asUintN(64, entry(...args.flat()));
+    const code = BigInt.asUintN(64, this.exports[name](...args.flat()));
     if (code !== 0n) return { ok: false, number: Number(code >> 32n), place: Number(code & 0xffffffffn) };
     return { ok: true, ...this.answer(names) };
   }

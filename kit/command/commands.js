@@ -141,6 +141,8 @@ export const COMMANDS = {
     examples: [
       ['krossvil react stutter-filter.kv --while no_tr', 'how long until "no train" is reported for sure'],
       ['krossvil react classroom.kv --from busy,idle --while no_train', 'states by their names'],
+      ['krossvil react classroom.kv --while no_train --tight', 'and the tight time'],
+      ['krossvil react watchdog.kv --while silence --moves 2', 'how long until two silent moves have led to the alarm'],
       ['krossvil react classroom.kv --while train --json', 'numbers for a script'],
     ],
   },

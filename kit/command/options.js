@@ -19,7 +19,7 @@ export const OPTIONS = {
   from: { type: 'string', value: 'STATES', says: 'names with commas between; all states if left out' },
   while: { type: 'string', value: 'INPUTS', says: 'names with commas between; all inputs if left out' },
   moves: { type: 'string', value: 'N', says: 'over so many moves, at most 32, with the longest way' },
-  tight: { type: 'boolean', says: 'also the least bound in whole units' },
+  tight: { type: 'boolean', says: 'also the tight time, which is enough too, since times are whole numbers' },
   unit: { type: 'string', value: 'TIME', says: 'how long one unit is: 1 ms if left out; 1, 10 or 100 of s, ms, us, ns, ps or fs' },
 };
 

@@ -45,17 +45,10 @@ function setFrom(words, names, what) {
 }
 
 /**
- * A function that this library may not have yet.
- * @param {() => any} call
+ * A path is state, input, state .. state.
+ * @param {Table} table @param {number} member @param {number} at
  */
-function orMissing(call) {
-  try {
-    return call();
-  } catch (error) {
-    if (!(error instanceof Error) || !error.message.startsWith('this library has no ')) throw error;
-    throw new Trouble(`${error.message}: it is older than this question`);
-  }
-}
+const nameOnPath = ({ names }, member, at) => (at % 2 === 0 ? names.states : names.inputs)[member];
 
 /**
  * @param {Asking} asking @param {Table} table @param {Question} question @param {any} answer
@@ -63,14 +56,14 @@ function orMissing(call) {
 function sayAnswer(asking, table, question, answer) {
   const { terminal } = asking;
   const target = members(answer.target).map((state) => table.names.states[state]);
-  const named = target.map(writtenName).join(',') || '-';
   if (asking.json) {
-    const { ok, target: set, ...rest } = answer;
-    return terminal.json({ answer: 'accepted', ...rest, target, ...(question.moves === undefined ? {} : { moves: question.moves }) });
+    const { ok, path, ...rest } = answer;
+    const named = path?.map((/** @type {number} */ member, /** @type {number} */ at) => nameOnPath(table, member, at));
+    return terminal.json({ answer: 'accepted', ...rest, target, ...(path && { moves: question.moves, path: named }) });
   }
   const moves = question.moves === undefined ? '' : ` moves=${question.moves}`;
   const tight = answer.tight === undefined ? '' : ` tight=${answer.tight}`;
-  terminal.line(`time=${answer.time}${tight} target=${named}${moves}`, 'green');
+  terminal.line(`time=${answer.time}${tight} target=${target.map(writtenName).join(',') || '-'}${moves}`, 'green');
   for (const sentence of sayReaction(table, question, answer)) terminal.sentence(sentence);
   if (answer.path) terminal.sentence(sayPath(table, answer.path));
 }
@@ -101,8 +94,8 @@ export function react(asking) {
   const inputs = setFrom(options.while, table.names.inputs, 'input');
   const one = (/** @type {Question} */ question, /** @type {any} */ answer) => answerOne(asking, source, table, question, answer);
   const codes = [];
-  if (options.tight) codes.push(one({ states, inputs }, orMissing(() => library.reactionTight(source.bytes, states, inputs))));
-  if (moves !== undefined) codes.push(one({ states, inputs, moves }, orMissing(() => library.reactionMoves(source.bytes, states, inputs, moves))));
+  if (options.tight) codes.push(one({ states, inputs }, library.reactionTight(source.bytes, states, inputs)));
+  if (moves !== undefined) codes.push(one({ states, inputs, moves }, library.reactionMoves(source.bytes, states, inputs, moves)));
   if (codes.length === 0) codes.push(one({ states, inputs }, library.reaction(source.bytes, states, inputs)));
   return Math.max(...codes);
 }

@@ -1,12 +1,14 @@
 import assert from 'node:assert/strict';
 import { test } from 'node:test';
 import { COMMANDS } from '../command/commands.js';
+import { encodeTable } from '../fields.js';
 import { newReport } from '../library.js';
 import { recordsText, tableText } from '../notation.js';
+import { members, wholeSet } from '../sets.js';
 import { Chance } from './chance.js';
 import { ask } from './command-world.js';
 import { library } from './core.js';
-import { drawRun, perhapsDamaged } from './draw.js';
+import { drawRun, drawTable, perhapsDamaged } from './draw.js';
 import { HOSTILE } from './pictures-fixtures.js';
 
 const ROUNDS = 250;
@@ -87,7 +89,7 @@ test(`run, short, long, salvage, unstamp and convert on ${ROUNDS} files each: th
   }
 });
 
-test(`dwell and react on ${ROUNDS} tables: the library's numbers`, async () => {
+test(`dwell on ${ROUNDS} tables: the library's numbers`, async () => {
   const chance = new Chance(13);
   for (let k = 0; k < ROUNDS; k++) {
     const { table, journal } = drawFiles(chance);
@@ -99,13 +101,40 @@ test(`dwell and react on ${ROUNDS} tables: the library's numbers`, async () => {
     const refused = got.lines.find((each) => each.answer === 'refused');
     if (!answer.ok) assert.deepEqual([refused.number, refused.place], [answer.number, answer.place]);
     if (passes) assert.equal(got.lines[got.lines.length - 1].journals, answer.ok ? 1 : 0);
-    const [states, inputs] = [chance.below(8), chance.below(8)];
-    const list = (set) => [0, 1, 2].filter((member) => set >> member & 1).join(',');
-    const time = library.reaction(table, states, inputs);
-    const told = await ask(['react', 'table', '--from', list(states), '--while', list(inputs), '--json'], { table });
-    const last = same(told, time, `react ${k}`);
-    if (time.ok) assert.equal(last.time, time.time);
   }
+});
+
+/** A question to the calculator: mostly one that is answered. */
+function drawQuestion(chance) {
+  const table = chance.percent(85) ? encodeTable(drawTable(chance, chance.percent(90) ? 'holds' : 'timers')) : drawFiles(chance).table;
+  const whole = (count) => wholeSet(Math.min(count ?? 0, 32));
+  const states = chance.percent(70) ? whole(table[3]) : chance.below(8);
+  const inputs = chance.percent(40) ? whole(table[4]) : chance.below(8);
+  return { table, states, inputs, moves: chance.percent(90) ? chance.below(6) : chance.between(7, 40) };
+}
+
+test(`react on ${3 * ROUNDS} tables, with tight and with several moves: the library's numbers`, async () => {
+  const chance = new Chance(15);
+  const numbers = new Set();
+  const list = (set) => members(set).join(',');
+  for (let k = 0; k < 3 * ROUNDS; k++) {
+    const { table, states, inputs, moves } = drawQuestion(chance);
+    const args = ['react', 'table', '--from', list(states), '--while', list(inputs)];
+    const answers = [
+      [[], library.reaction(table, states, inputs)],
+      [['--tight'], library.reactionTight(table, states, inputs)],
+      [['--moves', String(moves)], library.reactionMoves(table, states, inputs, moves)],
+    ];
+    for (const [options, answer] of answers) {
+      const last = same(await ask([...args, ...options, '--json'], { table }), answer, `react ${k} ${options}`);
+      numbers.add(answer.number ?? 0);
+      if (answer.ok) assert.deepEqual([last.time, last.tight, last.target.length, last.sums], [answer.time, answer.tight, members(answer.target).length, answer.sums]);
+      if (answer.ok) assert.deepEqual(last.path, answer.path?.map((member, at) => `${at % 2 === 0 ? 'q' : 'i'}${member}`));
+      const line = (await ask([...args, ...options], { table })).out.split('\n')[0];
+      assert.ok(answer.ok ? line.startsWith(`time=${answer.time} `) : line === `refused ${answer.number} at ${answer.place}`, line);
+    }
+  }
+  for (const number of [0, 9, 10, 14, 32]) assert.ok(numbers.has(number), `no question had the answer ${number}`);
 });
 
 test('pictures, dumps, pages, texts: no exception on any bytes, and a picture wherever the table passes', async () => {

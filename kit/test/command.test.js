@@ -150,18 +150,29 @@ test('react takes names, numbers and quotation marks, and says what it lacks', a
   for (const number of ['-1', '1.5', 'x', '99999999999']) assert.equal((await ask(['react', 'classroom.kv', `--moves=${number}`], FILES)).code, 2);
 });
 
-test('react over several moves, and tight, where the library has them', async () => {
-  const asked = [];
-  const newer = { checkTable: () => ({ ok: true }),
-    reactionMoves: (...args) => asked.push(args) && { ok: true, time: 12, target: 1, sums: [[0, 6], [0, 12]], path: [1, 0, 0] },
-    reactionTight: (...args) => asked.push(args) && { ok: true, time: 6, target: 1, tight: 5 } };
-  const both = await ask(['react', 'classroom.kv', '--while', 'no_train', '--moves', '2', '--tight'], FILES, { library: newer });
-  assert.deepEqual(asked.map((args) => args.slice(1)), [[3, 1], [3, 1, 2]]);
-  assert.match(both.out, /^time=6 tight=5 target=idle\n[^]*\ntime=12 target=idle moves=2\n[^]*The longest way: 'busy' under 'no_train' to 'idle'\./);
-  const older = { checkTable: () => ({ ok: true }), reactionMoves() { throw new Error('this library has no krossvil_reaction_moves'); } };
-  const missing = await ask(['react', 'classroom.kv', '--moves', '2'], FILES, { library: older });
-  assert.deepEqual([missing.code, missing.out], [2, '']);
-  assert.match(missing.err, /this library has no krossvil_reaction_moves/);
+test('react over several moves, and tight', async () => {
+  const cases = [
+    ['classroom.kv --while no_train --tight', 0, 'time=14 tight=12 target=idle', /In whole units 12 is enough\./],
+    ['classroom.kv --while train --tight', 0, 'time=6 tight=5 target=busy', /In whole units 5 is enough\./],
+    ['classroom.kv --while no_train --moves 0', 0, 'time=3 target=idle,busy moves=0', /There is no state outside the target/],
+    ['classroom.kv --while no_train --moves 1', 0, 'time=14 target=idle moves=1', /The longest way: 'busy'\./],
+    ['watchdog.kv --while silence --moves 2', 0, 'time=17 target=alarm moves=2', /The longest way: 'quiet' under 'silence' to 'watch'\./],
+    ['classroom.kv --moves 33', 1, 'refused 32 at 0', /33 moves were asked for; at most 32/],
+    ['classroom.kv --moves 4294967295', 1, 'refused 32 at 0', /4,294,967,295 moves were asked for/],
+    ['classroom.kv --from idle --while train --moves 2', 1, 'refused 10 at 1', /leads to 'busy', which is not among them/],
+    ['classroom.kv --from idle --while train --tight', 1, 'refused 10 at 1', /leads to 'busy', which is not among them/],
+    ['gas-burner.kv --moves 2', 1, 'refused 14 at 0', /This table has timers/],
+    ['gas-burner.kv --tight', 1, 'refused 14 at 0', /This table has timers/],
+  ];
+  for (const [line, code, says, sentence] of cases) {
+    const got = await ask(['react', ...words(line)], FILES);
+    assert.deepEqual([line, got.code, first(got.out), got.err], [line, code, says, '']);
+    assert.match(got.out, sentence, line);
+  }
+  const both = await ask(['react', 'watchdog.kv', '--while', 'silence', '--moves', '2', '--tight', '--json'], FILES);
+  assert.deepEqual(both.lines, [{ answer: 'accepted', time: 4, tight: 3, target: ['watch', 'alarm'] },
+    { answer: 'accepted', time: 17, target: ['alarm'], sums: [[2, 13, 0], [15, 13, 0]], moves: 2, path: ['quiet', 'silence', 'watch'] }]);
+  assert.equal((await ask(['react', 'classroom.kv', '--tight', '--moves', '33'], FILES)).code, 1);
 });
 
 test('dwell: a table, the lines for a spreadsheet, objects, and a plot', async () => {

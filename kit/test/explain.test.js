@@ -1,4 +1,5 @@
 import assert from 'node:assert/strict';
+import { readFileSync } from 'node:fs';
 import { test } from 'node:test';
 import { sayConverted, sayDwell, sayLeft, sayPath, sayReaction, saySalvage } from '../answers.js';
 import { EXAMPLES } from '../examples.js';
@@ -8,7 +9,7 @@ import { newReport, readReport } from '../library.js';
 import { originAt, readText } from '../notation.js';
 import { traceJournal, traceStimulus } from '../trace.js';
 import { library, sample } from './core.js';
-import { REFUSALS } from './refusals.js';
+import { REFUSALS, checkInto, movesWith, runInto } from './refusals.js';
 
 /** The explanation of a sample. */
 function explain({ kind, table, names, bytes, question, given }, refusal) {
@@ -27,12 +28,14 @@ test(`each number has a sample and a sentence: ${REFUSALS.length} samples`, () =
     assert.ok(MEANINGS.has(refusal.number));
   }
   const sampled = new Set(REFUSALS.map(({ number }) => number));
-  const uncalled = [32, 33]; // of the calculator for several moves
-  assert.deepEqual([...MEANINGS.keys()].filter((number) => !sampled.has(number)), uncalled);
-  const table = decodeTable(readText(sample('classroom')).parts[0].bytes);
-  const question = { states: 3, inputs: 1, moves: 33 };
-  assert.match(explainReaction(table, { number: 32, place: 0 }, question).sentences[0], /33 moves were asked for; at most 32/);
-  assert.match(explainReaction(table, { number: 33, place: 0 }, { states: 3, inputs: 1 }).sentences[0], /too short for so many moves/);
+  assert.deepEqual([...MEANINGS.keys()].filter((number) => !sampled.has(number)), []);
+  assert.deepEqual([movesWith(4, 3)().ok, runInto(123)().ok, checkInto(28)().ok], [true, true, true], 'one more is enough');
+});
+
+test('each number that the header lists has a meaning', () => {
+  const [, list] = /\n \* Refusals\.([^]*?)\n \*\n/.exec(readFileSync(new URL('../../include/krossvil.h', import.meta.url), 'utf8'));
+  const numbers = [...list.matchAll(/^ \* {5,6}([0-9]+)  /gm)].map(([, number]) => Number(number));
+  assert.deepEqual([...MEANINGS.keys()], numbers);
 });
 
 /** An example's trace, its explanation, and the piece of text that is blamed. */

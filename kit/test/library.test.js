@@ -1,18 +1,27 @@
 import assert from 'node:assert/strict';
 import { readFileSync } from 'node:fs';
 import { test } from 'node:test';
+import { encodeTable } from '../fields.js';
 import { newReport, readReport } from '../library.js';
-import { library, sameBytes } from './core.js';
+import { readText } from '../notation.js';
+import { wholeSet } from '../sets.js';
+import { Chance } from './chance.js';
+import { library, sameBytes, sample } from './core.js';
+import { drawTable, perhapsDamaged } from './draw.js';
 
 const file = (name) => new Uint8Array(readFileSync(new URL(`../../examples/${name}`, import.meta.url)));
 const header = readFileSync(new URL('../../include/krossvil.h', import.meta.url), 'utf8');
 const table = file('classroom/table.bin');
 const journal = file('classroom/journal.bin');
 
-/** Functions that come with a later header: until then their wrappers say that they are not there. */
-function declared(name) {
-  return header.includes(`uint64_t ${name}(`);
-}
+/** The names of the functions that are called, from here on. */
+const called = new Set();
+library.module.exports = new Proxy(library.module.exports, {
+  get(exports, name) {
+    called.add(name);
+    return exports[name];
+  },
+});
 
 test('the classroom, through every function', () => {
   assert.deepEqual(library.checkTable(table), { ok: true });
@@ -49,21 +58,45 @@ test('a season of journals', () => {
   assert.equal(longer[1], 11n);
 });
 
-test('reaction over several moves, and tight', () => {
-  if (declared('krossvil_reaction_moves')) {
-    assert.deepEqual(library.reactionMoves(table, 3, 1, 0), { ok: true, time: 3, target: 3, sums: [], path: [] });
-    assert.deepEqual(library.reactionMoves(table, 3, 1, 2), { ok: true, time: 14, target: 1, sums: [[0, 11], [0, 11]], path: [1] });
-    assert.deepEqual(library.reactionMoves(table, 3, 1, 33), { ok: false, number: 32, place: 0 });
-    assert.deepEqual(library.reactionMoves(table, 3, 1, 2 ** 32), { ok: false, number: 32, place: 0 });
-  } else {
-    assert.throws(() => library.reactionMoves(table, 3, 1, 2), /no krossvil_reaction_moves/);
+test('reaction over several moves', () => {
+  assert.deepEqual(library.reactionMoves(table, 3, 1, 0), { ok: true, time: 3, target: 3, sums: [], path: [] });
+  assert.deepEqual(library.reactionMoves(table, 3, 1, 1), { ok: true, time: 14, target: 1, sums: [[0, 11]], path: [1] });
+  assert.deepEqual(library.reactionMoves(table, 3, 2, 2), { ok: true, time: 6, target: 2, sums: [[3, 0], [3, 0]], path: [0] });
+  assert.deepEqual(library.reactionMoves(table, 3, 1, 32), { ok: true, time: 14, target: 1, sums: Array(32).fill([0, 11]), path: [1] });
+  const watchdog = readText(sample('watchdog')).parts[0].bytes;
+  assert.deepEqual(library.reactionMoves(watchdog, 7, 2, 2),
+    { ok: true, time: 17, target: 4, sums: [[2, 13, 0], [15, 13, 0]], path: [0, 1, 1] });
+  for (const moves of [33, 2 ** 32 - 1, 2 ** 32, 2 ** 40]) {
+    assert.deepEqual(library.reactionMoves(table, 3, 1, moves), { ok: false, number: 32, place: 0 });
   }
-  if (declared('krossvil_reaction_tight')) {
-    assert.deepEqual(library.reactionTight(table, 3, 1), { ok: true, time: 14, target: 1, tight: 12 });
-    assert.deepEqual(library.reactionTight(table, 3, 2), { ok: true, time: 6, target: 2, tight: 5 });
-  } else {
-    assert.throws(() => library.reactionTight(table, 3, 1), /no krossvil_reaction_tight/);
+  assert.deepEqual(library.reactionMoves(table, 2, 1, 0), { ok: false, number: 10, place: 2 });
+  assert.deepEqual(library.reactionMoves(table, 0xffffffff, 1, 33), { ok: false, number: 9, place: 0 });
+  assert.deepEqual(library.reactionMoves(file('gas-burner/table.bin'), 1, 1, 2), { ok: false, number: 14, place: 0 });
+});
+
+test('the tight time', () => {
+  assert.deepEqual(library.reactionTight(table, 3, 1), { ok: true, time: 14, target: 1, tight: 12 });
+  assert.deepEqual(library.reactionTight(table, 3, 2), { ok: true, time: 6, target: 2, tight: 5 });
+  assert.deepEqual(library.reactionTight(table, 3, 3), { ok: true, time: 3, target: 3, tight: 3 });
+  assert.deepEqual(library.reactionTight(table, 2, 1), { ok: false, number: 10, place: 2 });
+  assert.deepEqual(library.reactionTight(table, 3, 4), { ok: false, number: 9, place: 1 });
+});
+
+test('of one move, tight and several moves say what the calculator says: 3,000 questions', () => {
+  const chance = new Chance(3);
+  const numbers = new Set();
+  for (let k = 0; k < 3000; k++) {
+    const drawn = encodeTable(drawTable(chance, chance.percent(95) ? 'holds' : 'timers'));
+    const bytes = chance.percent(90) ? drawn : perhapsDamaged(chance, drawn);
+    const [states, inputs] = [0, 0].map(() => (chance.percent(60) ? wholeSet(chance.below(5)) : chance.below(16)));
+    const one = library.reaction(bytes, states, inputs);
+    const { tight, ...timed } = library.reactionTight(bytes, states, inputs);
+    const { sums, path, ...moved } = library.reactionMoves(bytes, states, inputs, 1);
+    assert.deepEqual([timed, moved], [one, one]);
+    if (one.ok) assert.ok(tight <= one.time && tight >= one.time - 2 && sums.length === 1 && path.length <= 1);
+    numbers.add(one.number ?? 0);
   }
+  for (const number of [0, 9, 10, 14]) assert.ok(numbers.has(number), `no question had the answer ${number}`);
 });
 
 test('what is longer than the memory gets the same answer as the whole would', () => {
@@ -97,4 +130,10 @@ test('nothing that was given is changed, and answers do not share memory', () =>
   library.salvage(table, given);
   library.shorten(table, given);
   assert.ok(sameBytes(given, before) && sameBytes(first.bytes, before));
+});
+
+test('every function of the header was called', () => {
+  const declared = [...header.matchAll(/^uint64_t (krossvil_[a-z_]*)\(/gm)].map(([, name]) => name);
+  assert.deepEqual(declared.filter((name) => !called.has(name)), []);
+  assert.equal(declared.length, 13);
 });

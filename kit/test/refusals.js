@@ -34,14 +34,35 @@ const changed = (number, place, from, to, says) => records(number, place, 'journ
 /** A question to the calculator. */
 function reaction(number, place, states, inputs, says, text = CLASSROOM) {
   const { bytes, names } = part(text, 'table');
-  return { number, place, says, kind: 'reaction', table: bytes, names, question: { states, inputs }, ask: () => library.reaction(bytes, states, inputs) };
+  const question = { states, inputs };
+  return { number, place, says, kind: 'reaction', table: bytes, names, question, ask: () => library.reaction(bytes, states, inputs) };
 }
+
+/** A question to the calculator for several moves. */
+function several(number, place, states, inputs, moves, says, ask = () => library.reactionMoves(TABLE, states, inputs, moves)) {
+  const { names } = part(CLASSROOM, 'table');
+  return { number, place, says, kind: 'reaction', table: TABLE, names, question: { states, inputs, moves }, ask };
+}
+
+/** The kit always lends enough: to have 33 and 30 of the library's functions, these are called with less, as C might. */
+function lendLess(name, args, rooms, answer) {
+  const { module } = library;
+  const lent = rooms.map(([room, count]) => [module.rooms[room].at, BigInt(count)]);
+  return module.call(name, [...args, ...lent], answer);
+}
+
+const given = (room, bytes) => library.module.give(room, bytes);
+export const movesWith = (sums, path) => () => lendLess('krossvil_reaction_moves', [given('table', TABLE), [3, 1, 2]], [['sums', sums], ['path', path]],
+  ['time', 'target', 'length']);
+export const runInto = (journal) => () => lendLess('krossvil_run', [given('table', TABLE), given('input', STIMULUS)], [['output', journal]], ['length']);
+export const checkInto = (answer) => () => lendLess('krossvil_check_journal', [given('table', TABLE), given('input', JOURNAL)], [['answer', answer]], []);
 
 /** Something that has too little room. */
 function room(number, given, says, ask) {
   return { number, place: 0, says, kind: 'room', given, ask };
 }
 
+const STIMULUS = part(CLASSROOM, 'stimulus').bytes;
 const LONG_SHORT = `krossvil short journal\ninput no_train\n${'+0 change no_train\n'.repeat(8191)}+0 end\n`;
 const TABLE = part(CLASSROOM, 'table').bytes;
 const JOURNAL = part(CLASSROOM, 'journal').bytes;
@@ -97,6 +118,12 @@ export const REFUSALS = [
   records(26, 4, 'stimulus', 'krossvil stimulus\ninput no_train\n1 tick\n1 end\n', /waits for its poll/),
   records(28, 58, 'short', sample('short-journal').split('\nkrossvil ')[1].replace(/^/, 'krossvil ').replace('+1  test   held', '+1  test   free'), /The test at 8 says free/),
   room(30, { numbers: 3 }, /memory that was lent is too short.*room for 3 numbers/, () => library.reportAdd(TABLE, JOURNAL, new BigUint64Array(3))),
+  room(30, {}, /memory that was lent is too short/, runInto(JOURNAL.length - 1)),
+  room(30, {}, /memory that was lent is too short/, checkInto(27)),
+  several(32, 0, 3, 1, 33, /33 moves were asked for; at most 32 are calculated/),
+  several(10, 2, 2, 1, 2, /from 'busy' input 'no_train' leads to 'idle', which is not among them/),
+  several(33, 0, 3, 1, 2, /memory for the sums, or for the path, is too short for so many moves/, movesWith(3, 63)),
+  several(33, 0, 3, 1, 2, /memory for the sums, or for the path, is too short for so many moves/, movesWith(4, 2)),
   room(34, { bytes: SHORT.length }, /would have 65,539 bytes; a journal has at most 65,536/, () => library.lengthen(TABLE, SHORT)),
   room(35, {}, /has 1,000 journals already/, () => library.reportAdd(TABLE, JOURNAL, new BigUint64Array(9).fill(1000n, 0, 1))),
 ];
