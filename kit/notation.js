@@ -40,13 +40,15 @@ const NONE = plainNames({ states: 0, inputs: 0, outputs: 0 }, 0);
 const KINDS = new Map([['table', 'table']]);
 for (const form of /** @type {Form[]} */ (Object.keys(FORM_WORDS))) KINDS.set(FORM_WORDS[form], form);
 
+const BEGINNING = new RegExp(`^${BOM}?${MAGIC}(\\s|$)`);
+const DECODER = new TextDecoder();
+
 /**
  * Does it begin with the word `krossvil`?
  * @param {Uint8Array|string} data
  */
 export function isText(data) {
-  const start = typeof data === 'string' ? data.slice(0, 20) : new TextDecoder().decode(data.subarray(0, 20));
-  return new RegExp(`^${BOM}?${MAGIC}(\\s|$)`).test(start);
+  return BEGINNING.test(typeof data === 'string' ? data.slice(0, 20) : DECODER.decode(data.subarray(0, 20)));
 }
 
 /**

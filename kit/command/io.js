@@ -1,7 +1,8 @@
 /** The world outside: files, the streams, other programs. Tests put another in its place. */
 
-import { closeSync, openSync, readSync, writeFileSync } from 'node:fs';
+import { closeSync, openSync, readSync, writeFileSync, writeSync } from 'node:fs';
 import { createRequire } from 'node:module';
+import { isatty } from 'node:tty';
 import { getSystemErrorMessage } from './system-errors.js';
 import { Trouble } from './trouble.js';
 
@@ -12,12 +13,15 @@ import { Trouble } from './trouble.js';
  * @property {(path: string, data: Uint8Array|string) => void} write
  * @property {(data: Uint8Array|string) => void} print               to the standard output
  * @property {(text: string) => void} complain                       to the standard error
+ * @property {() => void} finish                                     what was printed and still waits goes out
  * @property {(tool: string, args: string[], input: string) => Uint8Array|null} convert   null if the tool is not there
  * @property {boolean} printsToTerminal
  * @property {boolean} complainsToTerminal
  * @property {boolean} colours
  * @property {number} columns                                        of the terminal
  */
+
+const [INPUT, OUTPUT, ERRORS] = [0, 1, 2];
 
 /** Longer than any journal, so that most files fit; it is used again and again, which is much faster than memory that is new. */
 const ROOM = Buffer.alloc(70000);
@@ -29,7 +33,8 @@ function readUpTo(file, limit) {
   let room = ROOM;
   let length = 0;
   for (;;) {
-    const count = readSome(file, room.subarray(length, limit));
+    const chunk = room.subarray(length, limit);
+    const count = patiently(() => readSync(file, chunk));
     length += count;
     if (count === 0 || length >= limit) return room.subarray(0, length);
     if (length === room.length) room = Buffer.concat([room, Buffer.alloc(room.length)]);
@@ -37,13 +42,13 @@ function readUpTo(file, limit) {
 }
 
 /**
- * A terminal or a pipe may have nothing yet; then it is asked again.
- * @param {number} file @param {Uint8Array} chunk
+ * A terminal or a pipe may have nothing yet, or no room; then it is asked again.
+ * @param {() => number} act
  */
-function readSome(file, chunk) {
+function patiently(act) {
   for (;;) {
     try {
-      return readSync(file, chunk);
+      return act();
     } catch (error) {
       const { code } = /** @type {any} */ (error);
       if (code === 'EOF') return 0;
@@ -52,6 +57,46 @@ function readSome(file, chunk) {
     }
   }
 }
+
+/**
+ * Straight to the stream's file: Node's own streams take longer to load than a journal to check. Who closed a pipe wants no more.
+ * @param {number} file @param {Uint8Array|string} data
+ */
+function writeAll(file, data) {
+  const bytes = typeof data === 'string' ? Buffer.from(data) : data;
+  try {
+    for (let done = 0; done < bytes.length;) done += patiently(() => writeSync(file, bytes, done));
+  } catch {
+    process.exit(2);
+  }
+}
+
+/** Short pieces for the standard output wait here, and go out together: at a terminal at once. */
+class Waiting {
+  constructor() {
+    /** @type {string[]} */
+    this.pieces = [];
+    this.length = 0;
+    this.most = isatty(OUTPUT) ? 0 : 65536;
+  }
+
+  /** @param {Uint8Array|string} data */
+  add(data) {
+    if (typeof data !== 'string') this.flush();
+    if (typeof data !== 'string') return writeAll(OUTPUT, data);
+    this.pieces.push(data);
+    this.length += data.length;
+    if (this.length > this.most) this.flush();
+  }
+
+  flush() {
+    const { pieces } = this;
+    [this.pieces, this.length] = [[], 0];
+    if (pieces.length > 0) writeAll(OUTPUT, pieces.join(''));
+  }
+}
+
+const waiting = new Waiting();
 
 /**
  * @param {string} path @param {() => any} act
@@ -80,7 +125,7 @@ function convert(tool, args, input) {
 /** @type {Io} */
 export const realIo = {
   read: (path, limit) => orTrouble(path === '-' ? 'standard input' : path, () => {
-    if (path === '-') return readUpTo(0, limit);
+    if (path === '-') return readUpTo(INPUT, limit);
     const file = openSync(path, 'r');
     try {
       return readUpTo(file, limit);
@@ -89,11 +134,15 @@ export const realIo = {
     }
   }),
   write: (path, data) => orTrouble(path, () => writeFileSync(path, data)),
-  print: (data) => void process.stdout.write(data),
-  complain: (text) => void process.stderr.write(text),
+  print: (data) => waiting.add(data),
+  complain(text) {
+    waiting.flush();
+    writeAll(ERRORS, text);
+  },
+  finish: () => waiting.flush(),
   convert,
-  printsToTerminal: process.stdout.isTTY === true,
-  complainsToTerminal: process.stderr.isTTY === true,
-  colours: process.stdout.isTTY === true && !process.env.NO_COLOR && process.env.TERM !== 'dumb',
-  columns: process.stdout.columns || 100,
+  printsToTerminal: isatty(OUTPUT),
+  complainsToTerminal: isatty(ERRORS),
+  colours: isatty(OUTPUT) && !process.env.NO_COLOR && process.env.TERM !== 'dumb',
+  columns: (isatty(OUTPUT) && process.stdout.columns) || 100,
 };

@@ -74,11 +74,10 @@ export async function main(args, io = realIo, load = ownLibrary) {
     if (!(error instanceof Trouble)) throw error;
     for (const line of `krossvil: ${error.message}`.split('\n')) io.complain(`${visible(line)}\n`);
     return NOT_ASKED;
+  } finally {
+    io.finish();
   }
 }
 
 const isMain = process.argv[1] !== undefined && realpathSync(process.argv[1]) === fileURLToPath(import.meta.url);
-if (isMain) {
-  for (const stream of [process.stdout, process.stderr]) stream.on('error', () => process.exit(NOT_ASKED));
-  process.exitCode = await main(process.argv.slice(2));
-}
+if (isMain) process.exitCode = await main(process.argv.slice(2));

@@ -77,46 +77,49 @@ test('at a terminal: colours, and a progress line that is gone in the end', { sk
   assert.ok(shown.every((line) => !line.includes(' of 150 journals')));
 });
 
-/** The processor's time of a command, in milliseconds: the clock says little where other programs run beside it. */
-function processorTime(args) {
-  const done = spawnSync('bash', ['-c', 'TIMEFORMAT="%U %S"; time "$@" >/dev/null', '-', COMMAND, ...args], { encoding: 'utf8' });
+/** The processor's time of a program, in milliseconds: the clock says little where other programs run beside it. */
+function processorTime(program, args) {
+  const done = spawnSync('bash', ['-c', 'TIMEFORMAT="%U %S"; time "$@" >/dev/null', '-', program, ...args], { encoding: 'utf8' });
+  assert.match(done.stderr, /^[0-9.]+ [0-9.]+\n$/);
   return 1000 * done.stderr.trim().split(' ').reduce((sum, seconds) => sum + Number(seconds), 0);
 }
 
-/** The least time of five, in milliseconds: other programs run beside this one. */
-function leastTime(act) {
-  const times = Array.from({ length: 5 }, () => {
-    const start = process.hrtime.bigint();
-    act();
-    return Number(process.hrtime.bigint() - start) / 1e6;
-  });
-  return Math.min(...times);
+/** The least times of some rounds, in turn, so that what runs beside them slows all of them alike. */
+function leastTimes(acts) {
+  const rounds = Array.from({ length: 7 }, () => acts.map((act) => act()));
+  return acts.map((_, k) => Math.min(...rounds.map((times) => times[k])));
 }
 
-/** A loop in C over the native library, for the comparison where it runs by itself. */
-function nativeTime(files) {
+/** A loop in C over the native library, where that runs by itself. */
+function nativeLoop() {
   const loop = join(folder, 'loop');
-  execFileSync('gcc', ['-O2', '-Wall', '-Werror', `-I${KIT}/../include`, `${KIT}/test/command-loop.c`, `${KIT}/../target/staticlib/libkrossvil.a`, '-o', loop]);
-  return leastTime(() => execFileSync(loop, files));
+  const root = join(KIT, '..');
+  execFileSync('gcc', ['-O2', '-Wall', '-Werror', `-I${root}/include`, `${KIT}/test/command-loop.c`, `${root}/target/staticlib/libkrossvil.a`, '-o', loop]);
+  return loop;
 }
 
-test('1,000 journals of 64 KB are checked soon', () => {
+/** A table and 1,000 journals of 64 KB in files. */
+function manyFiles() {
   const table = join(folder, 'table.bin');
   writeFileSync(table, encodeTable(slow));
   const journals = Array.from({ length: 1000 }, (_, k) => join(folder, `${k}.bin`));
   const kinds = Array.from({ length: 4 }, (_, k) => longJournal(slow, { cycles: 2500, changes: 20, seed: k + 1 }));
   for (const [k, file] of journals.entries()) writeFileSync(file, kinds[k % kinds.length]);
-  assert.ok(library.checkJournal(encodeTable(slow), kinds[0]).ok);
-  const args = ['check', table, ...journals, '--plain'];
-  const check = () => {
-    const { code, out } = spawn(args, { maxBuffer: 1 << 24 });
-    assert.equal(code, 0);
-    assert.equal(out.split('\n').filter((line) => line.includes(': accepted end=')).length, 1000);
-  };
-  check();
-  const native = process.arch === 'x64' && existsSync(`${KIT}/../target/staticlib/libkrossvil.a`);
-  const taken = native ? leastTime(check) : processorTime(args);
-  const limit = native ? 3 * nativeTime([table, ...journals]) : 1500;
+  assert.ok(kinds.every((bytes) => bytes.length > 60000 && library.checkJournal(encodeTable(slow), bytes).ok));
+  return [table, ...journals];
+}
+
+// What is compared is the checking: the start of Node and of the command, which is the same for one journal as for 1,000, is taken off.
+test('1,000 journals of 64 KB are checked in at most three times the time of a loop in C', () => {
+  const files = manyFiles();
+  const { code, out } = spawn(['check', ...files, '--plain'], { maxBuffer: 1 << 24 });
+  assert.equal(code, 0);
+  assert.equal(out.split('\n').filter((line) => line.includes(': accepted end=')).length, 1000);
+  const command = (count) => () => processorTime(COMMAND, ['check', ...files.slice(0, 1 + count), '--plain']);
+  const loop = process.arch === 'x64' ? nativeLoop() : null;
+  const [start, whole, native] = leastTimes([command(1), command(1000), ...(loop ? [() => processorTime(loop, files)] : [])]);
+  const [taken, limit] = [whole - start, loop ? 3 * native : 1000];
+  console.log(`# 1,000 journals: ${Math.round(taken)} ms after a start of ${Math.round(start)} ms`
+    + (loop ? `; in C ${Math.round(native)} ms: ${(taken / native).toFixed(2)} times, with the start ${(whole / native).toFixed(2)} times` : ''));
   assert.ok(taken > 0 && taken <= limit, `${taken} ms, of at most ${limit}`);
-  console.log(`# 1,000 journals of ${kinds[0].length} bytes: ${Math.round(taken)} ms, of at most ${Math.round(limit)}`);
 });

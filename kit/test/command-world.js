@@ -26,6 +26,7 @@ export async function ask(args, files = {}, world = {}) {
     write(path, data) { written[path] = data; },
     print(data) { printed.out.push(bytesOf(data)); },
     complain(text) { printed.err.push(bytesOf(text)); },
+    finish() {},
     convert: (tool, options, input) => Buffer.from(`${tool} ${options.join(' ')} ${input.length}`),
     printsToTerminal: false, complainsToTerminal: false, colours: false, columns: 80, ...world,
   };
