@@ -19,19 +19,46 @@ finish() {
 # shellcheck source=host/x86-64.sh
 . host/x86-64.sh
 
-install_tools() { # what the kit needs, and what its tests need
-    local missing=()
-    command -v node >/dev/null || missing+=(nodejs)
-    command -v chromium >/dev/null || missing+=(chromium)
-    command -v rsvg-convert >/dev/null || missing+=(librsvg2-bin)
-    install_packages "${missing[@]}"
+# The programs that the kit and its tests call, each with the package that has it.
+tools=(node:nodejs tsc:node-typescript chromium:chromium rsvg-convert:librsvg2-bin dot:graphviz xmllint:libxml2-utils script:bsdutils
+    groff:groff-base)
+
+lacking() { # the tools that are not here
+    for tool in "${tools[@]}"; do
+        command -v "${tool%%:*}" >/dev/null || echo "$tool"
+    done
+}
+
+# Each program that is still not here is a failure with its name. Without Node nothing else can be tried.
+install_tools() {
+    local missing tool
+    mapfile -t missing < <(lacking)
+    install_packages "${missing[@]#*:}"
+    for tool in $(lacking); do
+        echo "FAILED  ${tool%%:*} is missing, and the package ${tool#*:} could not be installed"
+        failed=$((failed + 1))
+    done
+    if ! install_missing; then
+        echo "FAILED  the C compiler for x86-64 is missing, and could not be installed"
+        failed=$((failed + 1))
+    fi
+    command -v node >/dev/null || finish
+}
+
+timed() { # COMMAND...: says how many seconds it took
+    local start=$SECONDS status
+    "$@"
+    status=$?
+    echo "-- $((SECONDS - start)) s"
+    return "$status"
 }
 
 build() { # WHAT COMMAND...: what follows needs it
     echo "== $1"
-    if "${@:2}"; then
+    if timed "${@:2}"; then
         passed=$((passed + 1))
     else
+        echo "FAILED  $1"
         failed=$((failed + 1))
         finish
     fi
@@ -39,8 +66,10 @@ build() { # WHAT COMMAND...: what follows needs it
 
 part() { # COMMAND...: ends with a line 'N passed, M failed', which is added up
     echo "== $*"
+    local start=$SECONDS status
     "$@" 2>&1 | tee "$log"
-    local status=${PIPESTATUS[0]}
+    status=${PIPESTATUS[0]}
+    echo "-- $((SECONDS - start)) s"
     if [[ $(tail -n 1 "$log") =~ ^([0-9]+)\ passed,\ ([0-9]+)\ failed$ ]]; then
         passed=$((passed + BASH_REMATCH[1]))
         failed=$((failed + BASH_REMATCH[2]))
@@ -55,6 +84,5 @@ build 'the library as WebAssembly' kit/wasm/build
 build 'the page' node kit/page/build
 build 'the package' kit/deb/build
 part kit/test/run
-build "the command's types" tsc -p kit/command/tsconfig.json
 part kit/deb/try
 finish
