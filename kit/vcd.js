@@ -5,7 +5,7 @@
  * numbers. `cycle` counts the cycles from 0, `left` is how many ticks are left at a held test. Where the journal was refused, `refused` becomes
  * 1 at the record. The dump ends one unit later than the journal, so that what happens last can be seen.
  */
-import { vcdWord } from './escape.js';
+import { vcdWord, visible } from './escape.js';
 import { nameOf } from './name-of.js';
 import { left } from './trace.js';
 
@@ -116,6 +116,29 @@ class Dump {
   event(kind) {
     if (BY_NAME.get(kind)?.type === 'event') this.lines.push(change(kind, 1));
   }
+}
+
+/** How GTKWave shows a signal: decimal, binary or as text, at the right. */
+const FLAGS = { number: '@24', bit: '@28', string: '@820' };
+
+/** The whole run is to take so many of GTKWave's frames; at zoom -z there are 2^z units to a frame, and never less than one. */
+const FRAMES = 3.5;
+
+/**
+ * What GTKWave keeps of its window: it opens the dump with the signals of the run and the records shown, from the first time to the last.
+ * GTKWave looks for the dump where it lies as seen from the opened file: only that counts of the two paths, so their folder is made up.
+ * @param {Trace} trace @param {string} name  of both files, without the ending
+ */
+export function gtkw(trace, name) {
+  const { time } = trace.steps[trace.stop ?? trace.steps.length - 1].record;
+  const zoom = Math.min(0, Math.log2(FRAMES / (time + 1)));
+  const shown = [...BY_NAME.values()].filter(({ scope }) => scope !== 'numbers').map(({ scope, name: signal, type, width }) => {
+    const flags = type === 'string' ? FLAGS.string : width > 1 ? FLAGS.number : FLAGS.bit;
+    return `${flags}\n${scope}.${signal}${width > 1 ? `[${width - 1}:0]` : ''}`;
+  });
+  const path = `/folder/${visible(name).replaceAll('"', '\ufffd')}`;
+  const head = [`[dumpfile] "${path}.vcd"`, `[savefile] "${path}.gtkw"`, '[timestart] 0', '[size] 1200 500', '[signals_width] 200'];
+  return `${[...head, `*${zoom.toFixed(6)} 0`, ...shown].join('\n')}\n`;
 }
 
 /**

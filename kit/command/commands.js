@@ -147,8 +147,14 @@ export const COMMANDS = {
     ],
   },
   wave: {
-    group: 'at the desk', files: 'TABLE [JOURNAL]', count: [1, 2], options: ['output', 'as', 'unit'], module: () => import('./pictures.js'), writes: true,
-    says: 'a .vcd file for GTKWave', more: ['Names, numbers, phases and events as signals; `refused` rises where the journal is refused.'],
-    examples: [['krossvil wave classroom.kv -o classroom.vcd', 'then: gtkwave classroom.vcd']],
+    group: 'at the desk', files: 'TABLE [JOURNAL]', count: [1, 2], options: ['output', 'as', 'unit'], writes: true,
+    module: () => import('./pictures.js'),
+    says: 'a .vcd file for GTKWave (.gtkw: with the signals shown)',
+    more: ['Names, numbers, phases and events as signals; `refused` rises where the journal is refused.',
+      '-o FILE.gtkw writes FILE.vcd, and in FILE.gtkw what GTKWave is to show of it.'],
+    examples: [
+      ['krossvil wave classroom.kv -o classroom.vcd', 'then: gtkwave classroom.vcd, and pick signals'],
+      ['krossvil wave quarry.kv -o quarry.gtkw', 'then: gtkwave quarry.gtkw, and all of them are shown'],
+    ],
   },
 };

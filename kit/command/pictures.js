@@ -5,7 +5,7 @@ import { automaton, automatonDot } from '../automaton.js';
 import { diagram } from '../diagram.js';
 import { MEANINGS, explainJournal, narrate } from '../explain.js';
 import { decodeTable } from '../fields.js';
-import { vcd } from '../vcd.js';
+import { gtkw, vcd } from '../vcd.js';
 import { ACCEPTED, REFUSED } from './asking.js';
 import { tableRefused } from './check.js';
 import { traced } from './records.js';
@@ -98,15 +98,25 @@ export function draw(asking) {
   return said(asking, source.file);
 }
 
+const UNIT = /^(1|10|100) ?(s|ms|us|ns|ps|fs)$/;
+
 /**
+ * The dump; for a file that ends in .gtkw, the dump beside it and in the file what GTKWave shows of it.
  * @param {Asking} asking
  */
 export function wave(asking) {
   refuseMixing(asking);
-  const { unit } = asking.options;
-  if (unit !== undefined && !/^(1|10|100) ?(s|ms|us|ns|ps|fs)$/.test(unit)) throw new Trouble(`--unit takes 1, 10 or 100 of s, ms, us, ns, ps or fs, as '10 ms'; not '${unit}'`);
+  const { io, options: { unit, output } } = asking;
+  if (unit !== undefined && !UNIT.test(unit)) {
+    throw new Trouble(`--unit takes 1, 10 or 100 of s, ms, us, ns, ps or fs, as '10 ms'; not '${unit}'`);
+  }
   const found = traced(asking);
   if (!found) return REFUSED;
-  put(asking, vcd(found.trace, { unit }));
+  const dump = vcd(found.trace, { unit });
+  if (endingOf(asking, 'vcd') === 'gtkw') {
+    const stem = output.slice(0, -'.gtkw'.length);
+    io.write(`${stem}.vcd`, dump);
+    io.write(`${stem}.gtkw`, gtkw(found.trace, basename(stem)));
+  } else put(asking, dump);
   return said(asking, found.source.file);
 }

@@ -204,6 +204,10 @@ test('pictures and dumps: each ending, and which package is missing', async () =
   assert.match((await ask(['draw', 'classroom.kv', '-o', 'made.dot'], FILES)).files['made.dot'], /^digraph/);
   assert.match((await ask(['wave', 'quarry.kv', '--unit', '10 ms'], FILES)).out, /\$timescale 10 ms \$end/);
   assert.equal((await ask(['wave', 'quarry.kv', '--unit', 'week'], FILES)).code, 2);
+  const shown = await ask(['wave', 'quarry.kv', '-o', 'made/a b.gtkw'], FILES);
+  assert.deepEqual([shown.code, shown.out, shown.err], [0, '', '']);
+  assert.equal(shown.files['made/a b.vcd'], (await ask(['wave', 'quarry.kv'], FILES)).out);
+  assert.match(shown.files['made/a b.gtkw'], /^\[dumpfile\] "\/folder\/a b\.vcd"\n\[savefile\] "\/folder\/a b\.gtkw"\n[^]*\nrun\.state\n[^]*\nrecords\.tick\n$/);
   const svg = (await ask(['picture', 'quarry.kv', '--title', 'A <title>', '--dark', '--begin', '3', '--until', '12'], FILES)).out;
   assert.match(svg, /A &lt;title&gt;/);
 });

@@ -11,7 +11,7 @@ import { escapeXml, quoteDot, vcdWord, visible } from '../escape.js';
 import { encodeTable } from '../fields.js';
 import { DARK, LIGHT, inTurn } from '../theme.js';
 import { fit, widthOf, wrap } from '../text-width.js';
-import { vcd } from '../vcd.js';
+import { gtkw, vcd } from '../vcd.js';
 import { Chance } from './chance.js';
 import { library } from './core.js';
 import { drawRun, perhapsDamaged } from './draw.js';
@@ -120,6 +120,24 @@ test("the classroom's dump has its states, verdicts and cycles", () => {
   assert.equal(times[times.length - 1].values.get('refused') ?? '0', '0');
   const refused = readVcd(vcd(traceOfSample('changed-verdict')));
   assert.equal(refused.find(({ time }) => time === 8).values.get('refused'), '1');
+});
+
+test('what GTKWave is to show is in the dump, under any name of the file', () => {
+  const trace = traceOfSample('quarry');
+  const [scopes, signals] = [[], []];
+  for (const [, word, last] of vcd(trace).matchAll(/^\$(scope module|upscope|var \S+ \d+ \S+) ?(.*?) ?\$end$/gm)) {
+    if (word === 'upscope') scopes.pop();
+    else if (word.startsWith('scope')) scopes.push(last);
+    else signals.push([...scopes, last.replace(' ', '')].join('.'));
+  }
+  for (const name of HOSTILE) {
+    const [dump, save, ...lines] = gtkw(trace, name).split('\n');
+    assert.match(dump, /^\[dumpfile\] "\/folder\/[^"]*\.vcd"$/);
+    assert.match(save, /^\[savefile\] "\/folder\/[^"]*\.gtkw"$/);
+    const shown = lines.filter((line) => /^[a-z]+\./.test(line));
+    assert.ok(shown.length === 13 && shown.every((signal) => signals.includes(signal)), shown.join(' '));
+    assert.match(lines.filter((line) => !shown.includes(line)).join('\n'), /^(\[[a-z_]+\] [0-9 ]+\n)+\*-[0-9.]+ 0\n(@[0-9]+\n)+$/);
+  }
 });
 
 test('500 runs, sound and damaged, and hostile names: every dump is well-formed, and its state is that of the records', () => {
