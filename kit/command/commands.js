@@ -53,7 +53,8 @@ export const COMMANDS = {
     ],
   },
   picture: {
-    group: 'in class', files: 'TABLE [JOURNAL]', count: [1, 2], options: ['output', 'as', ...PICTURE, 'begin', 'until'], module: () => import('./pictures.js'), writes: true,
+    group: 'in class', files: 'TABLE [JOURNAL]', count: [1, 2], options: ['output', 'as', ...PICTURE, 'begin', 'until'],
+    module: () => import('./pictures.js'), writes: true,
     says: 'the timing diagram (.svg .png .pdf)',
     more: ['The refused record is ringed in red, and the sentences stand below. .png and .pdf need the package librsvg2-bin.'],
     examples: [
@@ -62,7 +63,8 @@ export const COMMANDS = {
     ],
   },
   draw: {
-    group: 'in class', files: 'TABLE', count: [1, 1], options: ['output', ...PICTURE, 'graphviz'], module: () => import('./pictures.js'), writes: true,
+    group: 'in class', files: 'TABLE', count: [1, 1], options: ['output', ...PICTURE, 'graphviz'],
+    module: () => import('./pictures.js'), writes: true,
     says: 'the automaton (.svg .png .pdf .dot)',
     more: ['.png and .pdf need the package librsvg2-bin, --graphviz needs graphviz.'],
     examples: [
@@ -71,7 +73,8 @@ export const COMMANDS = {
     ],
   },
   page: {
-    group: 'in class', files: '[TABLE [JOURNAL] [STIMULUS]]', count: [0, 3], options: ['output', 'title'], module: () => import('./page.js'), writes: true,
+    group: 'in class', files: '[TABLE [JOURNAL] [STIMULUS]]', count: [0, 3], options: ['output', 'title'],
+    module: () => import('./page.js'), writes: true,
     says: 'the live page with these files inside, one HTML file',
     more: ['It works from a folder, without a network: edit, step through the records, see the answer at each keystroke.'],
     examples: [['krossvil page quarry.kv -o quarry.html', 'open quarry.html in a browser']],
@@ -147,8 +150,8 @@ export const COMMANDS = {
     ],
   },
   wave: {
-    group: 'at the desk', files: 'TABLE [JOURNAL]', count: [1, 2], options: ['output', 'as', 'unit'], writes: true,
-    module: () => import('./pictures.js'),
+    group: 'at the desk', files: 'TABLE [JOURNAL]', count: [1, 2], options: ['output', 'as', 'unit'],
+    module: () => import('./pictures.js'), writes: true,
     says: 'a .vcd file for GTKWave (.gtkw: with the signals shown)',
     more: ['Names, numbers, phases and events as signals; `refused` rises where the journal is refused.',
       '-o FILE.gtkw writes FILE.vcd, and in FILE.gtkw what GTKWave is to show of it.'],

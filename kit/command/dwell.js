@@ -32,10 +32,14 @@ function add({ library }, table, { bytes, form }, report) {
  * @param {Asking} asking @param {TableSource} table @param {Source} source @param {any} refusal
  */
 function refuse(asking, table, source, refusal) {
+  if (asking.plain && !asking.json) {
+    const file = visible(shownFile(source.file)).replaceAll('"', '""');
+    asking.terminal.line(`refused,"${file}",${refusal.number},${refusal.place}`);
+    return REFUSED;
+  }
   const about = told(asking, table, source, refusal);
   const whole = refusal.number >= 30 ? { ...about, source, explanation: explainRoom(refusal, { bytes: source.bytes.length }) } : about;
-  if (asking.plain && !asking.json) asking.terminal.line(`refused,"${visible(shownFile(source.file)).replaceAll('"', '""')}",${refusal.number},${refusal.place}`);
-  else tell(asking, whole, `${shownFile(source.file)}: `);
+  tell(asking, whole, `${shownFile(source.file)}: `);
   return REFUSED;
 }
 
@@ -110,6 +114,7 @@ export function dwell(asking) {
     : Math.max(...named(asking.all(source, JOURNALS, undefined)).map(act));
   const report = reportOf(numbers, table.counts);
   sayReport(asking, table, report);
-  if (asking.options.output !== undefined) putPicture(asking, dwellPlot(report, table.names, { title: asking.options.title, width, theme: themeOf(asking) }));
+  const { output, title } = asking.options;
+  if (output !== undefined) putPicture(asking, dwellPlot(report, table.names, { title, width, theme: themeOf(asking) }));
   return worst;
 }

@@ -15,6 +15,8 @@ export const FILES = [
   '-o FILE writes to FILE, and its ending says the form. --json gives one object on one line for each answer, --plain no sentences.',
 ];
 
+const MADE = 'table.bin is made with: krossvil bytes classroom.kv --as table -o table.bin; journal.bin likewise.';
+
 export const EXITS = [
   ['0', 'accepted, or done'],
   ['1', 'refused'],
@@ -77,6 +79,6 @@ export function commandHelp(name) {
     ...optionsOf(name).map(option), '',
     examples.length > 1 ? 'Examples:' : 'Example:', ...examples.flatMap(([line, does]) => [`  ${line}`, `      ${does}`]), '',
     `The texts of the examples are in ${examplesFolder()}.`,
-    ...(examples.some(([line]) => line.includes('table.bin ')) ? ['table.bin is made with: krossvil bytes classroom.kv --as table -o table.bin; journal.bin likewise.'] : []), '',
+    ...(examples.some(([line]) => line.includes('table.bin ')) ? [MADE] : []), '',
   ].join('\n');
 }

@@ -52,7 +52,9 @@ async function answer(args, io, load) {
     return first === undefined ? NOT_ASKED : ACCEPTED;
   }
   const [name, given] = first === 'help' ? [rest[0], ['--help']] : [first, rest];
-  if (!Object.hasOwn(COMMANDS, name)) throw new Trouble(`there is no command '${name}'${didYouMean(name, Object.keys(COMMANDS))}\nsee: krossvil --help`);
+  if (!Object.hasOwn(COMMANDS, name)) {
+    throw new Trouble(`there is no command '${name}'${didYouMean(name, Object.keys(COMMANDS))}\nsee: krossvil --help`);
+  }
   const { values, positionals } = parsed(name, given);
   if (values.help) {
     io.print(commandHelp(name));

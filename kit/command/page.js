@@ -7,6 +7,7 @@ import { ACCEPTED } from './asking.js';
 import { madeFile } from './library-file.js';
 import { titleOf } from './pictures.js';
 import { JOURNALS, shownFile } from './sources.js';
+import { unicodeEscape } from './terminal.js';
 import { Trouble } from './trouble.js';
 import { put } from './writing.js';
 
@@ -20,7 +21,7 @@ const GIVEN = 'given';
 const DATA = /(<script type="application\/json" id="data">)([^<]*)(<\/script>)/;
 
 /** JSON that cannot end the script in which it stands. */
-const inScript = (/** @type {unknown} */ value) => JSON.stringify(value).replace(/[<\u2028\u2029]/g, (c) => `\\u${c.charCodeAt(0).toString(16).padStart(4, '0')}`);
+const inScript = (/** @type {unknown} */ value) => JSON.stringify(value).replace(/[<\u2028\u2029]/g, unicodeEscape);
 
 /**
  * The texts of what is given; a text that is given whole stays as it was written.
@@ -42,7 +43,8 @@ function textOf(asking, table) {
 export function pageWith(html, example) {
   const found = DATA.exec(html);
   const data = found ? JSON.parse(found[2]) : null;
-  if (!found || !Array.isArray(data?.samples) || typeof data.opens !== 'string') throw new Trouble('this page takes no example; open it and drop the files on it');
+  const takes = found && Array.isArray(data?.samples) && typeof data.opens === 'string';
+  if (!takes) throw new Trouble('this page takes no example; open it and drop the files on it');
   data.samples.unshift({ name: GIVEN, ...example });
   data.opens = GIVEN;
   return html.slice(0, found.index) + found[1] + inScript(data) + found[3] + html.slice(found.index + found[0].length);
@@ -63,7 +65,8 @@ export function page(asking) {
     const title = titleOf(asking, own) || 'Given';
     put(asking, pageWith(html, { title, says: `From ${shownFile(own)}.`, group: 'runs', text: textOf(asking, table) }));
   }
-  if (asking.json) asking.terminal.json({ answer: 'written', wrote: asking.options.output });
-  else if (asking.options.output !== undefined && asking.options.output !== '-') asking.terminal.sentence(`Open ${asking.options.output} in a browser.`);
+  const { output } = asking.options;
+  if (asking.json) asking.terminal.json({ answer: 'written', wrote: output });
+  else if (output !== undefined && output !== '-') asking.terminal.sentence(`Open ${output} in a browser.`);
   return ACCEPTED;
 }

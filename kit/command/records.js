@@ -162,10 +162,13 @@ export function left(asking) {
   if (!found) return REFUSED;
   const { trace, source } = found;
   const numbers = leftNumbers(trace);
-  if (asking.json) asking.terminal.json({ ...(trace.refused ? toldObject(toldTrace(trace, source)) : { file: source.file, answer: 'accepted' }), ...numbers });
-  else {
+  if (asking.json) {
+    const answer = trace.refused ? toldObject(toldTrace(trace, source)) : { file: source.file, answer: 'accepted' };
+    asking.terminal.json({ ...answer, ...numbers });
+  } else {
     if (trace.refused) tell(asking, toldTrace(trace, source));
-    if (numbers) asking.terminal.line(`time=${numbers.time} state=${numbers.state} entry=${numbers.entry} left=${numbers.left}`, trace.refused ? undefined : 'green');
+    const line = numbers && `time=${numbers.time} state=${numbers.state} entry=${numbers.entry} left=${numbers.left}`;
+    if (line) asking.terminal.line(line, trace.refused ? undefined : 'green');
     for (const sentence of sayLeft(trace)) asking.terminal.sentence(sentence);
   }
   return trace.refused ? REFUSED : ACCEPTED;

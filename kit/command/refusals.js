@@ -70,8 +70,9 @@ function shownPlace(told) {
     const caret = ' '.repeat(column - 1 - from) + '^'.repeat(Math.max(1, Math.min(width, LINE_SHOWN / 2)));
     return `${file}:${line}:${column}\n    ${source}\n    ${caret}`;
   }
-  const step = told.trace && told.trace.stop !== null ? told.trace.steps[told.trace.stop] : null;
-  return step && step.record.kind !== 'bytes' ? `${recordLine(step.record, /** @type {Trace} */ (told.trace).names)}      # at byte ${step.record.place}` : null;
+  const { trace } = told;
+  const record = trace && trace.stop !== null ? trace.steps[trace.stop].record : null;
+  return trace && record && record.kind !== 'bytes' ? `${recordLine(record, trace.names)}      # at byte ${record.place}` : null;
 }
 
 /**

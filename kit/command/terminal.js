@@ -9,12 +9,20 @@ const CODES = { green: 32, red: 31, bold: 1, quiet: 2 };
 const INDENT = '  ';
 
 /**
+ * A character as JSON and JavaScript can write it, half by half where it has two.
+ * @param {string} character
+ */
+export function unicodeEscape(character) {
+  return Array.from({ length: character.length }, (_, k) => `\\u${character.charCodeAt(k).toString(16).padStart(4, '0')}`).join('');
+}
+
+/**
  * JSON on one line. What cannot be seen is written as an escape, so that the object is the same and a terminal is not moved.
  * @param {unknown} value
  */
 export function jsonLine(value) {
-  const escape = (/** @type {string} */ c) => Array.from({ length: c.length }, (_, k) => `\\u${c.charCodeAt(k).toString(16).padStart(4, '0')}`).join('');
-  return [...JSON.stringify(value)].map((c) => (visible(c) === c ? c : escape(c))).join('');
+  const line = JSON.stringify(value);
+  return visible(line) === line ? line : [...line].map((c) => (visible(c) === c ? c : unicodeEscape(c))).join('');
 }
 
 /**

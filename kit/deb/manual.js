@@ -22,8 +22,9 @@ export function manual() {
   return [
     '.TH KROSSVIL 1', '.SH NAME', 'krossvil \\- check, run, explain and draw polling controllers and their journals', '.SH SYNOPSIS',
     '.B krossvil', roff('COMMAND FILE... [-o FILE] [options]'), '.SH DESCRIPTION',
-    roff('Polling controllers (PLC-Automata) poll an input, test it and tick. krossvil checks their tables and journals, runs them, explains and draws them. '
-      + 'Every answer, number and place is that of a proved library; reading of texts, sentences and pictures are not proved.'),
+    roff('Polling controllers (PLC-Automata) poll an input, test it and tick. krossvil checks their tables and journals, runs them, '
+      + 'explains and draws them. Every answer, number and place is that of a proved library; reading of texts, sentences and pictures '
+      + 'are not proved.'),
     ...FILES.flatMap((words) => ['.PP', roff(words)]),
     '.SH OPTIONS', ...COMMON.flatMap((option) => ['.TP', `.B ${roff(optionWords(option))}`, roff(OPTIONS[option].says)]),
     '.SH COMMANDS', ...GROUPS.flatMap((group) => Object.keys(COMMANDS).filter((name) => COMMANDS[name].group === group).flatMap(ofCommand)),
@@ -35,7 +36,8 @@ export function manual() {
 
 /** The completion for bash. */
 export function completion() {
-  const options = (/** @type {string} */ name) => optionsOf(name).flatMap((option) => [`--${option}`, ...(OPTIONS[option].short ? [`-${OPTIONS[option].short}`] : [])]).join(' ');
+  const words = (/** @type {string} */ option) => [`--${option}`, ...(OPTIONS[option].short ? [`-${OPTIONS[option].short}`] : [])];
+  const options = (/** @type {string} */ name) => optionsOf(name).flatMap(words).join(' ');
   return [
     '# Completion of krossvil for bash: commands, options, kinds and files.',
     '_krossvil() {',

@@ -30,7 +30,8 @@ test('the exit codes, from a folder that is not its own and through a link', () 
   assert.equal(ends(['check', 'changed-verdict.kv']).status, 1);
   assert.equal(ends(['check', 'none.kv']).status, 2);
   assert.equal(ends(['check', '.']).stderr, 'krossvil: .: it is a directory\n');
-  assert.equal(ends(['check', '-'], { input: sample('classroom') }).stdout.split('\n')[0], 'accepted end=12 cycles=4 moves=2 state=0 output=0 left=4 longest=3');
+  assert.equal(ends(['check', '-'], { input: sample('classroom') }).stdout.split('\n')[0],
+    'accepted end=12 cycles=4 moves=2 state=0 output=0 left=4 longest=3');
   assert.equal(ends([]).status, 2);
 });
 
@@ -43,7 +44,8 @@ test('without node, librsvg or Graphviz it says which package is missing, and en
   const bare = spawn(['check', 'classroom.kv'], { env: pathOf('none', SHELL) });
   assert.deepEqual([bare.code, bare.err], [2, 'krossvil: nodejs is missing; install it: apt-get install nodejs\n']);
   const env = pathOf('node', [...SHELL, 'node']);
-  for (const [args, name] of [[['picture', 'quarry.kv', '-o', join(folder, 'a.png')], 'librsvg2-bin'], [['draw', 'classroom.kv', '-o', join(folder, 'a.pdf')], 'librsvg2-bin'],
+  for (const [args, name] of [[['picture', 'quarry.kv', '-o', join(folder, 'a.png')], 'librsvg2-bin'],
+    [['draw', 'classroom.kv', '-o', join(folder, 'a.pdf')], 'librsvg2-bin'],
     [['draw', 'classroom.kv', '--graphviz', '-o', join(folder, 'a.svg')], 'graphviz']]) {
     const { code, out, err } = spawn(args, { env });
     assert.deepEqual([code, out], [2, '']);
@@ -94,7 +96,8 @@ function leastTimes(acts) {
 function nativeLoop() {
   const loop = join(folder, 'loop');
   const root = join(KIT, '..');
-  execFileSync('gcc', ['-O2', '-Wall', '-Werror', `-I${root}/include`, `${KIT}/test/command-loop.c`, `${root}/target/staticlib/libkrossvil.a`, '-o', loop]);
+  const sources = [`${KIT}/test/command-loop.c`, `${root}/target/staticlib/libkrossvil.a`];
+  execFileSync('gcc', ['-O2', '-Wall', '-Werror', `-I${root}/include`, ...sources, '-o', loop]);
   return loop;
 }
 

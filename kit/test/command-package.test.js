@@ -30,7 +30,8 @@ test('the completion has every command with its options', () => {
   }
 });
 
-const EMPTY = '<p>a</p><script type="application/json" id="data">{"samples":[{"name":"changed-verdict","text":"b"}],"opens":"changed-verdict"}</script><p>c</p>';
+const EMPTY = '<p>a</p><script type="application/json" id="data">'
+  + '{"samples":[{"name":"changed-verdict","text":"b"}],"opens":"changed-verdict"}</script><p>c</p>';
 const dataOf = (html) => JSON.parse(/id="data">([^<]*)<\/script>/.exec(html)[1]);
 
 test('a page takes any text without being ended by it', () => {
@@ -51,8 +52,8 @@ test('the built page carries what it is given', { skip: !built && 'the page is n
   assert.equal((await ask(['page'])).out, page);
   const whole = await ask(['page', 'quarry.kv', '-o', 'quarry.html'], { 'quarry.kv': sample('quarry') });
   assert.deepEqual([whole.code, whole.out], [0, '  Open quarry.html in a browser.\n']);
-  assert.deepEqual([dataOf(whole.files['quarry.html']).samples[0].title, dataOf(whole.files['quarry.html']).samples[0].text], ['quarry', sample('quarry')]);
-  assert.equal(dataOf(whole.files['quarry.html']).opens, dataOf(whole.files['quarry.html']).samples[0].name);
+  const { opens, samples: [quarry] } = dataOf(whole.files['quarry.html']);
+  assert.deepEqual([quarry.title, quarry.text, quarry.name], ['quarry', sample('quarry'), opens]);
   const { files } = await ask(['bytes', 'a.kv', '--as', 'journal', '-o', 'journal.bin'], { 'a.kv': sample('classroom') });
   const parts = await ask(['page', 'a.kv', 'journal.bin', '--title', 'From the card'], files);
   const [given] = dataOf(parts.out).samples;

@@ -29,7 +29,8 @@ function records(number, place, form, text, says) {
 }
 
 const journal = (number, place, lines, says) => records(number, place, 'journal', `krossvil journal\n${lines}\n`, says);
-const changed = (number, place, from, to, says) => records(number, place, 'journal', `krossvil journal${CLASSROOM.split('krossvil journal')[1].replace(from, to)}`, says);
+const [, OWN_JOURNAL] = CLASSROOM.split('krossvil journal\n');
+const changed = (number, place, from, to, says) => journal(number, place, OWN_JOURNAL.replace(from, to), says);
 
 /** A question to the calculator. */
 function reaction(number, place, states, inputs, says, text = CLASSROOM) {
@@ -52,10 +53,12 @@ function lendLess(name, args, rooms, answer) {
 }
 
 const given = (room, bytes) => library.module.give(room, bytes);
-export const movesWith = (sums, path) => () => lendLess('krossvil_reaction_moves', [given('table', TABLE), [3, 1, 2]], [['sums', sums], ['path', path]],
-  ['time', 'target', 'length']);
-export const runInto = (journal) => () => lendLess('krossvil_run', [given('table', TABLE), given('input', STIMULUS)], [['output', journal]], ['length']);
-export const checkInto = (answer) => () => lendLess('krossvil_check_journal', [given('table', TABLE), given('input', JOURNAL)], [['answer', answer]], []);
+export const movesWith = (sums, path) => () => lendLess('krossvil_reaction_moves', [given('table', TABLE), [3, 1, 2]],
+  [['sums', sums], ['path', path]], ['time', 'target', 'length']);
+export const runInto = (size) => () => lendLess('krossvil_run', [given('table', TABLE), given('input', STIMULUS)],
+  [['output', size]], ['length']);
+export const checkInto = (size) => () => lendLess('krossvil_check_journal', [given('table', TABLE), given('input', JOURNAL)],
+  [['answer', size]], []);
 
 /** Something that has too little room. */
 function room(number, given, says, ask) {
@@ -70,9 +73,11 @@ const SHORT = records(0, 0, 'short', LONG_SHORT, /./).bytes;
 
 export const REFUSALS = [
   table(1, 0, /^[^]*$/, 'krossvil table\nbytes 01 00\n', /ends in the middle of the field at byte 0: 2 bytes of it are there/),
-  table(1, 14, /^[^]*$/, 'krossvil table\nbytes 01 00 04 02 02 02 00\nbytes 02 00 04 00 00 00 03\n', /ends after 14 bytes, where it should go on with field 03, outputs/),
+  table(1, 14, /^[^]*$/, 'krossvil table\nbytes 01 00 04 02 02 02 00\nbytes 02 00 04 00 00 00 03\n',
+    /ends after 14 bytes, where it should go on with field 03, outputs/),
   table(2, 0, /^[^]*$/, 'krossvil table\nbytes 10 00 01 00\n', /should stand field 01, counts and initial state; there stands a field with tag 10/),
-  table(2, 26, /^[^]*$/, 'krossvil table\nbytes 01 00 04 02 02 02 00 02 00 04 00 00 00 03\nbytes 03 00 02 00 01 04 00 04 00 01 00 01 09 00 00\n', /field 05, holds, or field 07, timers/),
+  table(2, 26, /^[^]*$/, 'krossvil table\nbytes 01 00 04 02 02 02 00 02 00 04 00 00 00 03\n'
+    + 'bytes 03 00 02 00 01 04 00 04 00 01 00 01 09 00 00\n', /field 05, holds, or field 07, timers/),
   table(3, 0, 'start   idle', 'start   7', /initial state is number 7, but the 2 states are numbered 0 to 1/),
   table(4, 7, 'cycle   3', 'cycle   60001', /cycle bound is 60,001; it may be 1 to 60,000/),
   table(5, 17, 'output N', 'output 9', /State 'idle' has output number 9, but the 2 outputs are numbered 0 to 1/),
@@ -105,7 +110,8 @@ export const REFUSALS = [
   changed(23, 20, ' 2  test   free', ' 2  test   7', /has the verdict 7; a verdict is 0, held, or 1, free/),
   changed(23, 28, ' 3  tick   busy', ' 3  tick   4', /names state 4, but the 2 states/),
   changed(24, 20, ' 2  test   free', ' 1  test   free', /The test at 1 stands after the poll at 2, which is later/),
-  changed(25, 28, ' 3  tick   busy', ' 4  tick   busy', /the cycle began at 0 and lasts at most 3, so no record of it, be it a change or the end, is later than 3/),
+  changed(25, 28, ' 3  tick   busy', ' 4  tick   busy',
+    /the cycle began at 0 and lasts at most 3, so no record of it, be it a change or the end, is later than 3/),
   changed(26, 20, ' 2  test   free', ' 2  tick   busy', /comes out of turn: the controller has polled and waits for its test/),
   changed(27, 12, ' 2  poll   train', ' 1  poll   train', /not later than the last change of the input, which was at 1/),
   journal(27, 4, 'input no_train\n0 poll no_train', /not later than the start of its cycle, 0. The first poll that can come is at 1/),
@@ -116,7 +122,8 @@ export const REFUSALS = [
   changed(28, 60, ' 6  tick   busy', ' 6  tick   idle', /the test before it was held, so state 'busy' stays/),
   records(27, 12, 'stimulus', 'krossvil stimulus\ninput no_train\n1 change train\n1 poll\n1 end\n', /not later than the last change/),
   records(26, 4, 'stimulus', 'krossvil stimulus\ninput no_train\n1 tick\n1 end\n', /waits for its poll/),
-  records(28, 58, 'short', sample('short-journal').split('\nkrossvil ')[1].replace(/^/, 'krossvil ').replace('+1  test   held', '+1  test   free'), /The test at 8 says free/),
+  records(28, 58, 'short', `krossvil ${sample('short-journal').split('\nkrossvil ')[1].replace('+1  test   held', '+1  test   free')}`,
+    /The test at 8 says free/),
   room(30, { numbers: 3 }, /memory that was lent is too short.*room for 3 numbers/, () => library.reportAdd(TABLE, JOURNAL, new BigUint64Array(3))),
   room(30, {}, /memory that was lent is too short/, runInto(JOURNAL.length - 1)),
   room(30, {}, /memory that was lent is too short/, checkInto(27)),
