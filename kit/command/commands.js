@@ -157,7 +157,7 @@ export const COMMANDS = {
       '-o FILE.gtkw writes FILE.vcd, and in FILE.gtkw what GTKWave is to show of it.'],
     examples: [
       ['krossvil wave classroom.kv -o classroom.vcd', 'then: gtkwave classroom.vcd, and pick signals'],
-      ['krossvil wave quarry.kv -o quarry.gtkw', 'then: gtkwave quarry.gtkw, and all of them are shown'],
+      ['krossvil wave quarry.kv -o quarry.gtkw', 'then: gtkwave quarry.gtkw, and the signals are shown'],
     ],
   },
 };

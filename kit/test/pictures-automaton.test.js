@@ -10,6 +10,7 @@ import { members } from '../sets.js';
 import { Chance } from './chance.js';
 import { drawTable } from './draw.js';
 import { HOSTILE, tableOf, withHostileNames } from './pictures-fixtures.js';
+import { processorTime } from './processor-time.js';
 import { all, ofClass, readXml } from './well-formed.js';
 
 const TABLES = ['classroom', 'watchdog', 'gas-burner', 'stutter-filter'].map(tableOf);
@@ -104,9 +105,8 @@ test('states stand apart, and with up to 12 of them no edge goes through one', (
 
 test('32 states are laid out within two seconds', () => {
   const table = drawController(new Chance(7), 32);
-  const start = performance.now();
-  look(table, { width: 1600 });
-  assert.ok(performance.now() - start < 2000);
+  const taken = processorTime(() => look(table, { width: 1600 }));
+  assert.ok(taken < 2000, `${taken} ms`);
 });
 
 test('any table that passes has a picture, and a DOT text with all its states', () => {

@@ -9,6 +9,7 @@ import { Chance } from './chance.js';
 import { library } from './core.js';
 import { drawRun, perhapsDamaged } from './draw.js';
 import { HOSTILE, changed, longJournal, slow, tableOf, traceOf, traceOfSample, withHostileNames } from './pictures-fixtures.js';
+import { processorTime } from './processor-time.js';
 import { all, ofClass, readXml } from './well-formed.js';
 
 const WIDTHS = [1280, 390];
@@ -212,9 +213,11 @@ test('a journal of 64 KB is drawn within a second, in less than 200 KB', () => {
     assert.ok(trace.journal.length > 60000);
     const end = trace.steps[trace.steps.length - 1].record.time;
     for (const options of [{}, { from: 0, to: 1000000 }, { from: 0, to: end }, { selected: 4000, step: true }, { width: 3000 }]) {
-      const start = performance.now();
-      const picture = diagram(trace, { title: 'Long', ...options });
-      assert.ok(performance.now() - start < 1000, `${performance.now() - start} ms`);
+      let picture = '';
+      const taken = processorTime(() => {
+        picture = diagram(trace, { title: 'Long', ...options });
+      });
+      assert.ok(taken < 1000, `${taken} ms`);
       assert.ok(Buffer.byteLength(picture) < 200 * 1024, `${Buffer.byteLength(picture)} bytes, ${JSON.stringify(options)}`);
       readXml(picture);
     }
