@@ -89,7 +89,10 @@ class Module {
    */
   answer(names) {
     const { at } = this.rooms.answer;
-    return Object.fromEntries(names.map((name, k) => [name, this.view.getUint32(at + 4 * k)]));
+    /** @type {Record<string, number>} */
+    const numbers = {};
+    for (let k = 0; k < names.length; k++) numbers[names[k]] = this.view.getUint32(at + 4 * k);
+    return numbers;
   }
 
   /**

@@ -1,7 +1,5 @@
 /** The command `krossvil`: finds out what is asked, asks it, and ends with 0, 1 or 2. */
 
-import { realpathSync } from 'node:fs';
-import { fileURLToPath } from 'node:url';
 import { parseArgs } from 'node:util';
 import { visible } from '../escape.js';
 import { didYouMean } from '../notation/mistakes.js';
@@ -80,6 +78,3 @@ export async function main(args, io = realIo, load = ownLibrary) {
     io.finish();
   }
 }
-
-const isMain = process.argv[1] !== undefined && realpathSync(process.argv[1]) === fileURLToPath(import.meta.url);
-if (isMain) process.exitCode = await main(process.argv.slice(2));

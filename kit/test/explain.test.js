@@ -114,8 +114,7 @@ test('other answers in sentences', () => {
   const table = decodeTable(parts[0].bytes, names);
   const question = { states: 3, inputs: 1 };
   assert.deepEqual(sayReaction(table, question, library.reaction(parts[0].bytes, 3, 1)),
-    ["As long as the state is one of 'idle' and 'busy' and the input one of 'no_train', it takes at most 14 until the state is one "
-      + "of 'idle'."]);
+    ["As long as the state is 'idle' or 'busy' and the input is 'no_train', it takes at most 14 until the state is 'idle'."]);
   assert.match(sayReaction(table, question, { time: 14, target: 1, tight: 12 })[1], /12 is enough/);
   assert.match(sayPath(table, [1, 0, 0]), /'busy' under 'no_train' to 'idle'/);
   const torn = exampleOf('torn-journal');
