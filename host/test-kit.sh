@@ -79,9 +79,18 @@ part() { # COMMAND...: ends with a line 'N passed, M failed', which is added up
     fi
 }
 
+# It builds the library as WebAssembly and the page, and ends by naming the page.
+first_command() {
+    rm -f target/kit/krossvil.html
+    ./classroom | tee "$log"
+    grep -qx 'accepted end=12 cycles=4 moves=2 state=0 output=0 left=4 longest=3' "$log" &&
+        grep -qx 'refused 28 at 76' "$log" &&
+        tail -n 1 "$log" | grep -qx 'the page, to be opened in a browser: file:///.*/target/kit/krossvil.html' &&
+        [ -s target/kit/krossvil.html ]
+}
+
 install_tools
-build 'the library as WebAssembly' kit/wasm/build
-build 'the page' node kit/page/build
+build 'the first command' first_command
 build 'the package' kit/deb/build
 part kit/test/run
 part kit/deb/try
