@@ -163,7 +163,7 @@ test('react over several moves, and tight', async () => {
     ['classroom.kv --while no_train --tight', 0, 'time=14 tight=12 target=idle', /In whole units 12 is enough\./],
     ['classroom.kv --while train --tight', 0, 'time=6 tight=5 target=busy', /In whole units 5 is enough\./],
     ['classroom.kv --while no_train --moves 0', 0, 'time=3 target=idle,busy moves=0', /There is no state outside the target/],
-    ['classroom.kv --while no_train --moves 1', 0, 'time=14 target=idle moves=1', /The longest way: 'busy'\./],
+    ['classroom.kv --while no_train --moves 1', 0, 'time=14 target=idle moves=1', /The longest wait is in 'busy'\./],
     ['watchdog.kv --while silence --moves 2', 0, 'time=17 target=alarm moves=2', /The longest way: 'quiet' under 'silence' to 'watch'\./],
     ['classroom.kv --moves 33', 1, 'refused 32 at 0', /33 moves were asked for; at most 32/],
     ['classroom.kv --moves 4294967295', 1, 'refused 32 at 0', /4,294,967,295 moves were asked for/],
