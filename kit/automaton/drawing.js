@@ -128,7 +128,8 @@ function badge({ path: walk, layout: { radius }, theme }, place, state) {
 }
 
 /**
- * The inputs at edges and loops. A rim of paper keeps lines that pass below them away.
+ * The inputs at edges and loops. A rim of paper keeps lines that pass below them away. What is lit is not bold: it would be too wide for
+ * its place, and places do not change while one steps.
  * @param {Scene} scene
  */
 export function labels({ layout, names, theme, litInput }) {
@@ -136,7 +137,7 @@ export function labels({ layout, names, theme, litInput }) {
   return [...layout.edges, ...layout.loops].map(({ edge, label }) => {
     const { lines, height } = edgeLabel(edge, names.inputs, litInput(edge.from, edge.to));
     return lines.map(({ text: words, lit, delayed }, k) => {
-      const style = { size: EDGE_SIZE, fill: lit ? theme.lit : delayed ? theme.held : theme.ink, bold: lit };
+      const style = { size: EDGE_SIZE, fill: lit ? theme.lit : delayed ? theme.held : theme.ink };
       return text(label.x, label.y - height / 2 + EDGE_SIZE * (0.95 + 1.2 * k), words, { ...style, anchor: 'middle' }, rim);
     });
   });

@@ -103,7 +103,7 @@ const MOST_LINES = 3;
  */
 
 /**
- * The inputs of an edge: at once, then after the hold. They have the room that they need when lit, so that lighting moves nothing.
+ * The inputs of an edge: at once, then after the hold.
  * @param {Edge} edge @param {string[]} names
  * @param {number|null} lit     the input that is lit
  * @returns {Label}
@@ -113,6 +113,6 @@ export function edgeLabel(edge, names, lit) {
     wrap(listOf(inputs, names), EDGE_ROOM, EDGE_SIZE).map((text) => ({ text, delayed, lit: lit !== null && inputs.includes(lit) }));
   const all = [...of(edge.free, false), ...of(edge.delayed, true)];
   const lines = all.length <= MOST_LINES ? all : [...all.slice(0, MOST_LINES - 1), { ...all[MOST_LINES - 1], text: '…' }];
-  const width = Math.max(...lines.map((line) => widthOf(line.text, EDGE_SIZE, true)));
+  const width = Math.max(...lines.map((line) => widthOf(line.text, EDGE_SIZE)));
   return { lines, width, height: lines.length * EDGE_SIZE * 1.2 };
 }
