@@ -272,17 +272,21 @@ link=()
 run=()
 compile -c host/reference.c -o "$out/reference.o" && compile -DSELF -c host/differential.c -o "$out/self.o" ||
     stop "did not build"
-tried=0
-fault() { # NUMBER MEANING
-    local found=0 log="$out/fault.log"
-    rm -f "$out/fault"
-    if ! { compile -DSECOND -DFAULT="$1" -c host/reference.c -o "$out/fault.o" &&
-        "$compiler" "$out/self.o" "$out/reference.o" "$out/fault.o" "${link[@]}" -o "$out/fault"; }; then
+try_fault() { # NUMBER: its log is missing if it did not build. It is built faster than it would run faster.
+    local program="$out/fault-$1"
+    compile -O0 -DSECOND -DFAULT="$1" -c host/reference.c -o "$program.o" &&
+        "$compiler" "$out/self.o" "$out/reference.o" "$program.o" "${link[@]}" -o "$program" &&
+        "${run[@]}" "$program" "$fault_cases" 1 >"$program.log" 2>&1
+    rm -f "$program" "$program.o"
+}
+
+judge_fault() { # NUMBER MEANING: of one that was tried
+    local found log="$out/fault-$1.log"
+    if [ ! -e "$log" ]; then
         echo "fault $1 did not build"
         failed=$((failed + 1))
         return
     fi
-    "${run[@]}" "$out/fault" "$fault_cases" 1 >"$log" 2>&1
     found=$(sed -n 's/^mismatches: //p' "$log")
     if [ "$1" -eq 0 ] && [ "$found" = 0 ]; then
         printf 'fault %2s: no mismatch, as it should be: %s\n' "$1" "$2"
@@ -295,11 +299,20 @@ fault() { # NUMBER MEANING
         failed=$((failed + 1))
     fi
 }
-fault 0 "none"
-while read -r number meaning; do
-    fault "$number" "$meaning"
-    tried=$((tried + 1))
-done < <(sed -n '/-DFAULT=n/,/\*\//s/^ \*  *\([0-9][0-9]*\)  \(.*\)$/\1 \2/p' host/reference.c | sed 's, \*/$,,')
+
+# As many at a time as there are processors.
+rm -f "$out"/fault-*
+mapfile -t faults < <(echo '0 none' &&
+    sed -n '/-DFAULT=n/,/\*\//s/^ \*  *\([0-9][0-9]*\)  \(.*\)$/\1 \2/p' host/reference.c | sed 's, \*/$,,')
+for each in "${faults[@]}"; do
+    while [ "$(jobs -rp | wc -l)" -ge "$(nproc)" ]; do wait -n; done
+    try_fault "${each%% *}" &
+done
+wait
+for each in "${faults[@]}"; do
+    judge_fault "${each%% *}" "${each#* }"
+done
+tried=$((${#faults[@]} - 1))
 highest=$(sed -n 's/.*FAULT > \([0-9][0-9]*\).*/\1/p' host/reference.c)
 [ "$tried" = "$highest" ] || stop "$tried faults tried of $highest"
 finish
