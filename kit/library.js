@@ -9,11 +9,8 @@
 /** @typedef {import('./types.js').Refused} Refused */
 /** @typedef {{at: number, size: number}} Room */
 
-export const JOURNAL_MAX = 65536;
-export const STIMULUS_MAX = 57344;
-export const STAMPED_MAX = 49152;
-export const SHORT_MAX = 65536;
-export const REPORT_MAX = 1089;
+const JOURNAL_MAX = 65536;
+const REPORT_MAX = 1089;
 
 /**
  * So many bytes of each argument are handed over. Of a journal one more than the limit is enough to be refused with 19. Of a table what

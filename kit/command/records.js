@@ -24,7 +24,7 @@ import { JOURNALS } from './sources.js';
  * A record as its line of text.
  * @param {JournalRecord} record @param {Names} names @param {number} [width]
  */
-export function shownRecord(record, names, width = 1) {
+function shownRecord(record, names, width = 1) {
   if (record.kind !== 'bytes') return recordLine(record, names, width);
   return record.length === 0 ? '(nothing)' : `(${counted(record.length, 'byte')})`;
 }

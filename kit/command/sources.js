@@ -162,7 +162,7 @@ export const shownFile = (file) => (file === '-' ? 'standard input' : file);
  * @param {string} file @param {Uint8Array} data @param {'table'|Form} form
  * @returns {Source}
  */
-export function bytesSource(file, data, form) {
+function bytesSource(file, data, form) {
   return { file, form, bytes: data.subarray(0, mostOf(form)), part: null, text: null, looksText: looksLikeText(data) };
 }
 

@@ -20,7 +20,7 @@ export function unicodeEscape(character) {
  * JSON on one line. What cannot be seen is written as an escape, so that the object is the same and a terminal is not moved.
  * @param {unknown} value
  */
-export function jsonLine(value) {
+function jsonLine(value) {
   const line = JSON.stringify(value);
   return visible(line) === line ? line : [...line].map((c) => (visible(c) === c ? c : unicodeEscape(c))).join('');
 }

@@ -13,7 +13,7 @@
 /** @typedef {{number: number, tokens: Token[]}} Line  a line that has tokens */
 /** @typedef {{column: number, width: number, says: string}} Fault */
 
-export const NAME_MAX = 64;
+const NAME_MAX = 64;
 
 const WORD = '[\\p{L}\\p{M}\\p{N}_.]+(?:-[\\p{L}\\p{M}\\p{N}_.]+)*';
 const TOKEN = new RegExp(`(?<name>"[^"]*")|(?<arrow>->|→)|(?<comma>,)|(?<gap>\\+[0-9]+)|(?<word>${WORD}|-[0-9]+)|(?<dash>-)`, 'uy');
