@@ -92,6 +92,7 @@ first_command() {
 install_tools
 build 'the first command' first_command
 build 'the package' kit/deb/build
+part kit/test/compare
 part kit/test/run
 part kit/deb/try
 finish
