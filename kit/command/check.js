@@ -3,8 +3,8 @@
 import { acceptanceLine, sayAcceptance } from '../answers.js';
 import { decodeTable } from '../fields.js';
 import { counted } from '../names.js';
-import { ACCEPTED, REFUSED } from './asking.js';
-import { eachJournal, named } from './many.js';
+import { ACCEPTED, NOT_ASKED, REFUSED } from './asking.js';
+import { eachJournal, named, worstOf } from './many.js';
 import { tell, told } from './refusals.js';
 import { JOURNALS, shownFile } from './sources.js';
 
@@ -70,7 +70,17 @@ function checkBeside(asking, table) {
   const has = table.text?.parts.some(({ kind }) => JOURNALS.some((form) => form === kind));
   if (!has && asking.kind === null) return passes(asking, table);
   const sources = named(asking.all(table, JOURNALS, undefined));
-  return Math.max(...sources.map((source) => checkOne(asking, table, source, sources.length > 1)));
+  return worstOf(sources.map((source) => checkOne(asking, table, source, sources.length > 1)));
+}
+
+/**
+ * How many journals there were, in a sentence.
+ * @param {number[]} codes
+ */
+function sayMany(codes) {
+  const count = (/** @type {number} */ code) => codes.filter((each) => each === code).length;
+  const unread = count(NOT_ASKED) === 0 ? '' : `, ${counted(count(NOT_ASKED), 'file')} could not be read`;
+  return `${counted(count(ACCEPTED) + count(REFUSED), 'journal')} checked, ${count(REFUSED)} refused${unread}.`;
 }
 
 /**
@@ -81,13 +91,7 @@ export function check(asking) {
   if (tableRefused(asking, table)) return REFUSED;
   const files = asking.files.slice(1);
   if (files.length === 0) return checkBeside(asking, table);
-  let [asked, refused] = [0, 0];
-  const worst = eachJournal(asking, table, files, (source) => {
-    const code = checkOne(asking, table, source, files.length > 1);
-    asked++;
-    refused += code;
-    return code;
-  });
-  if (files.length > 1 && !asking.json) asking.terminal.sentence(`${counted(asked, 'journal')} checked, ${refused} refused.`);
-  return worst;
+  const codes = eachJournal(asking, table, files, (source) => checkOne(asking, table, source, files.length > 1));
+  if (files.length > 1 && !asking.json) asking.terminal.sentence(sayMany(codes));
+  return worstOf(codes);
 }

@@ -7,7 +7,7 @@ import { decodeTable } from '../fields.js';
 import { newReport } from '../library.js';
 import { ACCEPTED, REFUSED } from './asking.js';
 import { tableRefused } from './check.js';
-import { eachJournal, named } from './many.js';
+import { eachJournal, named, worstOf } from './many.js';
 import { numberOf, themeOf } from './pictures.js';
 import { tell, told } from './refusals.js';
 import { JOURNALS, shownFile } from './sources.js';
@@ -110,11 +110,10 @@ export function dwell(asking) {
     return answer.ok ? ACCEPTED : refuse(asking, source, journal, answer);
   };
   const files = asking.files.slice(1);
-  const worst = files.length > 0 ? eachJournal(asking, source, files, act)
-    : Math.max(...named(asking.all(source, JOURNALS, undefined)).map(act));
+  const codes = files.length > 0 ? eachJournal(asking, source, files, act) : named(asking.all(source, JOURNALS, undefined)).map(act);
   const report = reportOf(numbers, table.counts);
   sayReport(asking, table, report);
   const { output, title } = asking.options;
   if (output !== undefined) putPicture(asking, dwellPlot(report, table.names, { title, width, theme: themeOf(asking) }));
-  return worst;
+  return worstOf(codes);
 }

@@ -20,23 +20,27 @@ function sayTrouble(asking, file, error) {
   return NOT_ASKED;
 }
 
+/** @param {number[]} codes */
+export const worstOf = (codes) => codes.reduce((worst, code) => Math.max(worst, code), ACCEPTED);
+
 /**
- * The worst of the answers' exit codes.
+ * The exit code of each journal, and of each file that could not be read.
  * @param {Asking} asking @param {TableSource} table @param {string[]} files
- * @param {(source: Source) => number} act @returns {number}
+ * @param {(source: Source) => number} act
  */
 export function eachJournal(asking, table, files, act) {
-  let worst = ACCEPTED;
+  /** @type {number[]} */
+  const codes = [];
   for (const [k, file] of files.entries()) {
     try {
-      for (const source of named(asking.all(table, JOURNALS, file, true))) worst = Math.max(worst, act(source));
+      for (const source of named(asking.all(table, JOURNALS, file, true))) codes.push(act(source));
     } catch (error) {
-      worst = Math.max(worst, sayTrouble(asking, file, error));
+      codes.push(sayTrouble(asking, file, error));
     }
     asking.terminal.progress(k + 1, files.length);
   }
   asking.terminal.clearProgress();
-  return worst;
+  return codes;
 }
 
 /**

@@ -58,7 +58,7 @@ test('many journals: a line each, the worst code, and those that cannot be read 
   assert.equal(err, 'none.bin: no such file\n');
   assert.deepEqual(out.split('\n').filter((line) => /^\S/.test(line)),
     [`journal.bin: ${ACCEPTED}`, `changed.bin: ${REFUSED}`, `short.bin: ${ACCEPTED}`]);
-  assert.match(out, /3 journals checked, 1 refused\./);
+  assert.match(out, /3 journals checked, 1 refused, 1 file could not be read\./);
   const { lines } = await ask(['check', 'table.bin', 'journal.bin', 'changed.bin', 'none.bin', '--json'], FILES);
   assert.deepEqual(lines.map(({ file, answer }) => [file, answer]),
     [['journal.bin', 'accepted'], ['changed.bin', 'refused'], ['none.bin', 'not asked']]);
