@@ -1,7 +1,7 @@
 /** The files that are named: bytes, or a text that begins with `krossvil`. A text may hold a table and its journals and stimulus together. */
 
 import { FORMS, decodeTable, formOf } from '../fields.js';
-import { plainNames } from '../names.js';
+import { listed, plainNames } from '../names.js';
 import { FORM_WORDS, TEXT_MAX, isText, readText, showMistakes } from '../notation.js';
 import { Trouble } from './trouble.js';
 
@@ -34,11 +34,6 @@ export const JOURNALS = /** @type {const} */ (['journal', 'stamped', 'short']);
 
 /** What is read of bytes in a form: one more than the most that the library takes. */
 const mostOf = (/** @type {'table'|Form} */ form) => (form === 'table' ? TABLE_READ : FORMS[form].max + 1);
-
-/**
- * @param {string[]} words
- */
-const either = (words) => (words.length < 2 ? words.join('') : `${words.slice(0, -1).join(', ')} or ${words[words.length - 1]}`);
 
 /** @param {'table'|Form} kind */
 export const wordOf = (kind) => (kind === 'table' ? 'table' : FORM_WORDS[kind]);
@@ -182,7 +177,7 @@ function ownForm(data, forms) {
 function partsOf(file, text, forms, as) {
   const wanted = as ? [as] : forms;
   const parts = text.parts.filter(({ kind }) => wanted.some((form) => form === kind));
-  if (parts.length === 0) throw new Trouble(`${shownFile(file)}: there is no ${either(wanted.map(wordOf))} in this text`);
+  if (parts.length === 0) throw new Trouble(`${shownFile(file)}: there is no ${listed(wanted.map(wordOf), 'or')} in this text`);
   return parts.map((part) => ({ file, form: /** @type {Form} */ (part.kind), bytes: part.bytes, part, text, looksText: false }));
 }
 

@@ -17,7 +17,7 @@ export class Browser {
   constructor(program = 'chromium') {
     this.profile = mkdtempSync(join(tmpdir(), 'krossvil-page-'));
     const stdio = ['ignore', 'ignore', 'ignore', 'pipe', 'pipe'];
-    this.child = spawn('nice', [program, ...FLAGS, `--user-data-dir=${this.profile}`, 'about:blank'], { stdio });
+    this.child = spawn(program, [...FLAGS, `--user-data-dir=${this.profile}`, 'about:blank'], { stdio });
     this.ended = new Promise((resolve) => this.child.on('close', resolve));
     this.number = 0;
     this.calls = new Map();
