@@ -9,5 +9,5 @@ ghost use Rattle.demands.specs.Host.{JudgesRuns};
 pub fn judge(table: &[u8], journal: &[u8], answer: &mut [u8]) -> u64
     ensures { λ r. ⌜ (28 ≤ length (now (answer .entry)) → JudgesRuns (now (table .entry)) (now (journal .entry)) (now (answer .entry)) r (now (answer .exit))) ⌝ }
 {
-    krossvil::krossvil_check_journal(table, journal, answer)
+    krossvil::checking::krossvil_check_journal(table, journal, answer)
 }

@@ -1,0 +1,29 @@
+-- A refusal touches no buffer; a success is told.
+use Rattle.krossvil.proofs.Outcomes.{refused, owed-same}
+use Rattle.krossvil.proofs.Stamps.{stamped-none}
+use Rattle.stamped.specs.Answer.{replyOf}
+use native.Mathlib.Omega.{arith}
+use mathlib.Core.Path.{refl, sym, ap}
+use borrow.Author.Needs.{needs}
+use Rattle.krossvil.proofs.restating.tell_stamped.Statement.{statement}
+use Rattle.krossvil.proofs.restating.tell_stamped.Tie as tie
+
+returns : tie.Need-returns
+returns c =
+    refused replyOf _ (c .before .before .before .before .before .args .read) refl _ _ (c .before .before .number .ensures) (c .before .place .ensures)
+    (stamped-none (c .before .before .before .before .before .args .read) (c .before .before .before .match .keys2)) _ _ (c .code .ensures)
+
+cast-bytes : tie.Need-cast-bytes
+cast-bytes c = let small = rw (c .before .read .given .1) at (c .before .before .before .before .pre .1) in omega arith
+
+returns-2 : tie.Need-returns-2
+returns-2 c =
+    owed-same replyOf (c .before .before .before .before .before .before .before .before .before .args .read) _ _ refl
+    (sym (ap replyOf (c .before .before .before .before .before .before .read .given .1)))
+    (c .before .before .before .before .before .before .before .before .before .args .answer .now) _ _ (c .before .before .tell .ensures)
+
+pub tell-stamped-spec : {M : Type 1} → statement M
+tell-stamped-spec =
+    tie.close
+    (tie.spec (λ c. search needs) (λ c κs. search needs) (λ c κs. search needs) (λ c κs. search needs) returns
+    cast-bytes (λ c. search needs) (λ c κs. search needs) (λ c. search needs) returns-2)
