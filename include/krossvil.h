@@ -1,10 +1,11 @@
 /*
  * krossvil: a table check, a journal check, a runtime, a reaction calculator for one move and for several, a converter of old tables, a
  * reader of stamped journals, for short journals a check and the ways to and from journals, salvage of torn journals, and a report of
- * where the time of many journals went; for polling controllers, and a host program in C.
+ * where the time of many journals went; for polling controllers, and a host program in C. docs/RULES.md has all the rules in words.
  *
  * Link with libkrossvil.a (x86-64). The functions keep no state, allocate nothing, call only memcpy and memset, and never stop the program:
- * each ends with an answer on any bytes. How much stack they need is below; that is measured, not proved.
+ * each ends with an answer on any bytes. So they may be called from several threads at once, as long as no thread writes to a slice that
+ * another call was given. How much stack they need is below; that is measured, not proved.
  *
  * Slices. A slice is a pointer and the number of bytes at it. The pointer is never null, not even if the number is 0, and a slice
  * that a function writes to (without const) shares no byte with another slice of the same call. Two slices have numbers in the place
@@ -34,6 +35,10 @@
  *
  *   A hold starts when its state is entered. A timer starts when its region is entered from outside, or at 0 if the region has the
  *   initial state; it runs on through moves inside the region, and delays no input outside it.
+ *
+ *   A machine works in cycles, from 0 or a tick to the next tick, and its phase says how far it is: 0 before the poll, 1 before the test,
+ *   2 after a test that was held, 3 after one that was free. A poll comes in phase 0, a test in 1, a tick in 2 or 3, which makes it 0;
+ *   a change and the end come in any.
  *
  *   Journal, at most 65,536 bytes: field 10 first, field 1F last, the others between in any number. A time is four bytes,
  *   0..2,000,000,000, and stands first in its value.
@@ -161,14 +166,18 @@ uint64_t krossvil_check_table(const uint8_t *table, size_t table_len);
 uint64_t krossvil_check_journal(const uint8_t *table, size_t table_len, const uint8_t *journal, size_t journal_len,
                                 uint8_t *answer, size_t answer_len);
 
-/* Run the table's machine on a stimulus and write its journal at the start of `journal`; the bytes past it are unchanged.
- * Answer, 4 bytes: the journal's length. */
+/* Run the table's machine on a stimulus and write its journal at the start of `journal`; the bytes past it are unchanged. 28 never comes:
+ * a stimulus names no polled input, verdict or state, and the machine's own are written. Answer, 4 bytes: the journal's length. */
 uint64_t krossvil_run(const uint8_t *table, size_t table_len, const uint8_t *stimulus, size_t stimulus_len,
                       uint8_t *journal, size_t journal_len, uint8_t *answer, size_t answer_len);
 
 /* How long until the state is in the target, once it stays in `states` and the input in `inputs`? Sets are numbers, bit i for
- * member i; empty sets are allowed. A table with timers is refused (14). Answer, 8 bytes: the reaction time in units of the table's
- * times, the target set. */
+ * member i; empty sets are allowed. The target is the set of every next(p, a), for p in `states` and a in `inputs`, and must lie in
+ * `states` (10). The time c is E and the largest weight of a state in `states` outside the target; with no such state it is E. A state
+ * weighs E, or hold + 2*E if it has a hold and delays one of `inputs`. What c promises, of every accepted journal: if s + c is below T, and
+ * each slot from s to s + c - 1 has its state in `states` and its input in `inputs`, slot s + c has its state in the target. (Slot k is
+ * the time from k to k + 1; its state and input are those after every record up to time k, those at k included.)
+ * A table with timers is refused (14). Answer, 8 bytes: the reaction time in units of the table's times, the target set. */
 uint64_t krossvil_reaction(const uint8_t *table, size_t table_len, uint32_t states, uint32_t inputs,
                            uint8_t *answer, size_t answer_len);
 
