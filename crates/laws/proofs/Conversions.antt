@@ -13,12 +13,14 @@ use Rattle.wire.specs.Made.{made, answerIn, bufferIn}
 use Rattle.wire.proofs.Apart.{apart}
 use Rattle.wire.proofs.Choice.{never}
 use Rattle.sets.proofs.Members.{member-below, below-limit}
+use Rattle.table.specs.declared.Answer.{Answer}
 use Rattle.table.specs.declared.Answer.the-variants.{Passes}
 use Rattle.table.specs.declared.Table.{Table}
 use Rattle.table.specs.Entries.{values, filled, zeros}
 use Rattle.table.specs.Table.{holdOf, delayedOf, delays, regionOf, holders, Uses, WellFormedBy, WellFormed}
 use Rattle.table.specs.Check.{wordEntry, countsIn, holdField, delayedField, oldAnswer, tableAnswer, tableWith, tableIn}
 use Rattle.table.specs.Encode.{encode, timing, words}
+use Rattle.table.specs.Under.{underTable}
 use Rattle.table.proofs.Answers.{decided}
 use Rattle.table.proofs.Stands.{old-stands}
 use Rattle.table.proofs.Under.{under-passes}
@@ -29,16 +31,27 @@ use Rattle.convert.specs.declared.Answer.the-variants.{Converted, TableRefused,
 use Rattle.convert.specs.Convert.{newSet, change, withSets, emptied, total, byState, newBytes, changes, madeOf}
 use Rattle.convert.proofs.Converting.{is-made, new-length}
 use Rattle.records.specs.Form as form
-use Rattle.journal.specs.Check as journal
-use Rattle.journal.specs.Check.{checkIn, checkOf}
-use Rattle.reaction.specs.Reaction.{reactionOf, reactOf}
+use Rattle.journal.specs.Check.{checkIn}
+use Rattle.reaction.specs.Reaction.{forHolds, reactionOf, reactOf}
 use Rattle.reaction.proofs.Entry.{has-holds}
+use Rattle.moves.specs.Moves.{judge, judgeOf, movesOf, sumsAfter, pathAfter}
+use Rattle.tight.specs.Tight.{reactTightOf}
 use Rattle.runtime.specs.Run as run
-use Rattle.runtime.specs.Run.{madeUnder, runOf}
+use Rattle.runtime.specs.Run.{runOf}
 use Rattle.laws.specs.Conversions.{answerFor, newTable, ConvertsFaithfully, PassingComesBack, ConvertsOnce}
 use Rattle.laws.proofs.Rows.{front, same-array}
 use Rattle.laws.proofs.Encoding.{passes-encodes, encoding-passes}
-use Rattle.laws.proofs.Emptied.{set-is, answers-same, run-same, reactions-same}
+use Rattle.laws.proofs.Emptied.{
+  set-is,
+  answers-same,
+  run-same,
+  reactions-same,
+  tight-same,
+  judge-same,
+  over-same,
+  rows-over-same,
+  path-over-same,
+}
 
 -- ---- The emptied table is well formed
 
@@ -210,27 +223,45 @@ no-timers-emptied : (t : Table) → emptied t .timers ≡ t .timers
 unfolding emptied
 no-timers-emptied t = refl
 
+-- What an entry answers on bytes that pass, and hold this table.
+module _ (new : List ℕ) (t : Table) (passes : tableAnswer new ≡ Passes) (read : tableIn new ≡ t) {A : Type 0} (refused : Answer → A) where
+  under-read : (under : Table → A) → underTable refused under new ≡ under t
+  under-read under = under-passes refused under new passes ∙ ap under read
+
+  under-holds : t .timers ≡ 0 → (timers : A) (under : Table → A) → underTable refused (forHolds timers under) new ≡ under t
+  under-holds none timers under = under-read (forHolds timers under) ∙ has-holds timers under t none
+
 pub converts-faithfully : ConvertsFaithfully
-unfolding checkIn runOf reactOf
+unfolding checkIn runOf reactOf reactTightOf judgeOf movesOf sumsAfter pathAfter
 converts-faithfully old buffer changed c =
     let done = succeeded old buffer changed (c .succeeds) in
     let passes = done .0 in
     let t = tableIn old in
     let ok = well-formed-by true old passes in
+    let s = newTable old buffer in
     let is = writes-new old buffer passes (done .1) ∙ new-encodes old passes (passes-encodes true old (c .bytes) passes) in
     let new = encoding-passes false (emptied t) (emptied-well t ok) in
-    let now : tableAnswer (newTable old buffer) ≡ Passes = ap tableAnswer is ∙ new .0 in
-    let read : tableIn (newTable old buffer) ≡ emptied t = ap tableIn is ∙ new .1 in
+    let now : tableAnswer s ≡ Passes = ap tableAnswer is ∙ new .0 in
+    let read : tableIn s ≡ emptied t = ap tableIn is ∙ new .1 in
     let few = ok .states .1 in
     let plain = ok .no-timers refl in
     let uses = plain-uses t ok plain in
     let none = empty-regions t ok plain in
-    let still : tableIn (newTable old buffer) .timers ≡ 0 = ap (λ x. x .timers) read ∙ no-timers-emptied t ∙ plain in (
+    let still : emptied t .timers ≡ 0 = no-timers-emptied t ∙ plain in
+    let reacts : (P A : ℕ) → reactOf s P A ≡ reactionOf t P A = λ P A. under-holds s (emptied t) now read _ still _ _ ∙ reactions-same t few uses none P A in
+    let judged : (P A n sums path : ℕ) → judgeOf s P A n sums path ≡ judge t P A n sums path =
+    λ P A n sums path. under-holds s (emptied t) now read _ still _ _ ∙ judge-same t few uses none P A n sums path
+    in (
       (is, now),
-      λ s. under-passes _ _ (newTable old buffer) now ∙ ap (λ x. journal.answerIn form.journal x s) read ∙ answers-same t few uses none form.journal s,
-      λ s. under-passes _ _ (newTable old buffer) now ∙ ap (λ x. madeUnder x s) read ∙ ap run.madeOf (run-same t few uses none form.stimulus s),
-      λ P A. under-passes _ _ (newTable old buffer) now ∙ has-holds _ _ (tableIn (newTable old buffer)) still ∙ ap (λ x. reactionOf x P A) read
-          ∙ reactions-same t few uses none P A,
+      λ F j. under-read s (emptied t) now read _ _ ∙ answers-same t few uses none F j,
+      λ e. under-read s (emptied t) now read _ _ ∙ ap run.madeOf (run-same t few uses none form.stimulus e),
+      reacts,
+      λ P A. rw (reacts P A, read, tight-same t few uses none P A) refl,
+      λ P A n sums path. (
+        rw (judged P A n (length sums) (length path), read, over-same t few uses none P A n) refl,
+        rw (judged P A n (length sums) (length path), read, rows-over-same t few uses none P A n sums) refl,
+        rw (judged P A n (length sums) (length path), read, path-over-same t few uses none P A n path) refl,
+      ),
     )
 
 -- ---- A table that passes

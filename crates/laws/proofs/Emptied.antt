@@ -2,7 +2,7 @@
 use mathlib.Core.Path.{_≡_, refl, sym, ap, _∙_, fun-ext}
 use mathlib.Core.List.{List, [], _∷_}
 use mathlib.Core.Bool.{Bool, true, false, not}
-use Prim.Native.Nat.{ℕ, zero, suc, _+_, _≤_, max}
+use Prim.Native.Nat.{ℕ, zero, suc, _+_, _-_, _*_, _≤_, max}
 use native.Mathlib.Omega.{arith}
 use borrow.Author.Tests.{ltb-true, ltb-false, ne-eqb}
 use lib.ListN.{length}
@@ -10,6 +10,7 @@ use Rattle.wire.specs.Choice.{_<?_, _=?_, _and_, if_then_else_}
 use Rattle.sets.specs.Sets.{member, some, largest}
 use Rattle.table.specs.declared.Table.{Table}
 use Rattle.table.specs.Table.{holdOf, delayedOf, regionOf, Uses}
+use Rattle.table.specs.Entries.{values}
 use Rattle.table.proofs.Values.{getD-filled, filled-uses}
 use Rattle.records.specs.declared.Record.{Record}
 use Rattle.records.specs.declared.Record.the-variants.{Change, Poll, Test, Tick, End}
@@ -24,11 +25,13 @@ use Rattle.machine.specs.declared.Gate.{Gate}
 use Rattle.machine.specs.declared.Gate.the-variants.{Open, Shut}
 use Rattle.machine.specs.Machine.{start, kindOf, rule, verdict, left, stateAfter, regionsAfter, agrees, after, gate, through, step}
 use Rattle.machine.proofs.Watches.{rule-by-state, left-by-state}
-use Rattle.machine.specs.Most.{most}
+use Rattle.machine.specs.Most as machine
 use Rattle.machine.specs.Run.{mostLeft}
 use Rattle.machine.specs.Walk.{Run, ran, tooLong, refused, inTable, filled, completed, onwards, walk, ranFrom, recordsRun, opened, runOver}
 use Rattle.journal.specs.Check.{answerOf, answerIn}
 use Rattle.reaction.specs.Reaction.{nextSet, weightOf, weight, reactionTime, firstLeaving, reactionOf}
+use Rattle.tight.specs.Tight.{fromHold, needOf, outside, tightTime}
+use Rattle.moves.specs.Moves.{nextTimes, onPath, most, round, sumsOf, rows, pathFrom, largestSum, worstStart, worstPath, judge, reactionOver, sumsOver, pathOver}
 use Rattle.convert.specs.Convert.{newSet, emptied}
 
 -- ---- One state
@@ -150,7 +153,7 @@ module _ (t : Table) (few : t .states ≤ 32) (uses : Uses (t .states) 32 (t .de
         go (opening.Input input) = records-same s input
 
   most-same : (rs : List Record) (m : Machine) → mostLeft t′ m rs ≡ mostLeft t m rs
-  unfolding most
+  unfolding machine.most
   most-same [] m = refl
   most-same (r ∷ rs) m =
       ap (λ n. max (if isTest r then n else 0) (mostLeft t′ (after t′ m r) rs)) (left-same m _)
@@ -165,24 +168,91 @@ module _ (t : Table) (few : t .states ≤ 32) (uses : Uses (t .states) 32 (t .de
       go tooLong = refl
       go (refused refusal place) = refl
 
-  -- ---- The calculator
+  -- ---- The calculators
 
-  weight-same : (A p : ℕ) → weight t′ A p ≡ weight t A p
-  unfolding weightOf emptied
-  weight-same A p = ap by (set-is p) ∙ go (holdOf t p)
+  -- Whether a weight comes from a hold is not changed by a set without one; so no weight is, and no need.
+  from-hold-same : (A p : ℕ) → fromHold t′ A p ≡ fromHold t A p
+  unfolding emptied
+  from-hold-same A p = ap by (set-is p) ∙ go (holdOf t p)
     where
-      by : ℕ → ℕ
-      by set = weightOf (holdOf t p) (t .bound) (some (t .inputs) (λ a. member A a and member set a))
+      by : ℕ → Bool
+      by set = (0 <? holdOf t p) and some (t .inputs) (λ a. member A a and member set a)
 
-      go : (hold : ℕ) → weightOf hold (t .bound) (some (t .inputs) (λ a. member A a and member (newSet hold (delayedOf t p)) a)) ≡
-          weightOf hold (t .bound) (some (t .inputs) (λ a. member A a and member (delayedOf t p) a))
+      go : (hold : ℕ) → ((0 <? hold) and some (t .inputs) (λ a. member A a and member (newSet hold (delayedOf t p)) a)) ≡
+          ((0 <? hold) and some (t .inputs) (λ a. member A a and member (delayedOf t p) a))
       go zero = refl
       go (suc hold) = rw (has-hold hold (delayedOf t p)) refl
 
+  weights-same : (A : ℕ) → weight t′ A ≡ weight t A
+  unfolding weightOf emptied
+  weights-same A = fun-ext (λ p. ap (λ held. if held then holdOf t p + 2 * t .bound else t .bound) (from-hold-same A p))
+
+  needs-same : (A : ℕ) → needOf t′ A ≡ needOf t A
+  unfolding needOf emptied
+  needs-same A = fun-ext (λ p. ap (λ held. if held then holdOf t p + 3 * t .bound - 2 else 2 * t .bound - 1) (from-hold-same A p))
+
+  -- One move.
   time-same : (P A : ℕ) → reactionTime t′ P A ≡ reactionTime t P A
   unfolding reactionTime nextSet emptied
-  time-same P A = ap (λ w. t .bound + largest (t .states) (λ p. member P p and not (member (nextSet t P A) p)) w) (fun-ext (weight-same A))
+  time-same P A = ap (λ w. t .bound + largest (t .states) (λ p. member P p and not (member (nextSet t P A) p)) w) (weights-same A)
 
   pub reactions-same : (P A : ℕ) → reactionOf t′ P A ≡ reactionOf t P A
   unfolding reactionOf firstLeaving nextSet emptied
   reactions-same P A = rw (time-same P A) refl
+
+  pub tight-same : (P A : ℕ) → tightTime t′ P A ≡ tightTime t P A
+  unfolding tightTime nextSet emptied
+  tight-same P A =
+      let target = nextSet t P A in
+      ap (λ need. if some (t .states) (outside P target) then largest (t .states) (outside P target) need else t .bound) (needs-same A)
+
+  -- Several moves.
+  target-same : (P A n : ℕ) → nextTimes t′ P A n ≡ nextTimes t P A n
+  unfolding nextTimes nextSet emptied
+  target-same P A zero = refl
+  target-same P A (suc n) = ap (λ M. nextSet t M A) (target-same P A n)
+
+  pub judge-same : (P A n sums path : ℕ) → judge t′ P A n sums path ≡ judge t P A n sums path
+  unfolding judge firstLeaving emptied
+  judge-same P A n sums path = refl
+
+  module _ (P A N : ℕ) where
+    round-same : (row : List ℕ) → round t′ P A N row ≡ round t P A N row
+    unfolding round emptied
+    round-same row = ap (λ w. values (λ q. if onPath t P A N q then w q + most t P A N row q else 0) (t .states)) (weights-same A)
+
+    sums-same : (k : ℕ) → sumsOf t′ P A N k ≡ sumsOf t P A N k
+    unfolding sumsOf emptied
+    sums-same zero = refl
+    sums-same (suc k) = ap (round t′ P A N) (sums-same k) ∙ round-same (sumsOf t P A N k)
+
+    rows-same : (n : ℕ) → rows t′ P A N n ≡ rows t P A N n
+    unfolding rows
+    rows-same zero = refl
+    rows-same (suc n) = rw (rows-same n, sums-same (suc n)) refl
+
+    from-same : (follow q : ℕ) → pathFrom t′ P A N follow q ≡ pathFrom t P A N follow q
+    unfolding pathFrom emptied
+    from-same zero q = refl
+    from-same (suc k) q = rw (sums-same (suc k), from-same k _) refl
+
+    largest-same : (n : ℕ) → largestSum t′ P A N n ≡ largestSum t P A N n
+    unfolding largestSum emptied
+    largest-same n = rw (sums-same n) refl
+
+    path-same : (n : ℕ) → worstPath t′ P A N n ≡ worstPath t P A N n
+    unfolding worstPath worstStart emptied
+    path-same n = rw (largest-same n, sums-same n, from-same (n - 1) _) refl
+
+  module _ (P A n : ℕ) where
+    pub over-same : reactionOver t′ P A n ≡ reactionOver t P A n
+    unfolding reactionOver emptied
+    over-same = rw (target-same P A n, largest-same P A (nextTimes t P A n) n, path-same P A (nextTimes t P A n) n) refl
+
+    pub rows-over-same : (sums : List ℕ) → sumsOver t′ P A n sums ≡ sumsOver t P A n sums
+    unfolding sumsOver emptied
+    rows-over-same sums = rw (target-same P A n, rows-same P A (nextTimes t P A n) n) refl
+
+    pub path-over-same : (path : List ℕ) → pathOver t′ P A n path ≡ pathOver t P A n path
+    unfolding pathOver
+    path-over-same path = rw (target-same P A n, path-same P A (nextTimes t P A n) n) refl

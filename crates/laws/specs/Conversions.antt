@@ -3,15 +3,23 @@ use mathlib.Core.Path.{_≡_}
 use mathlib.Core.List.{List}
 use Prim.Native.Nat.{ℕ, _≤_}
 use lib.ListN.{length, take}
+use Rattle.wire.specs.Choice.{if_then_else_}
 use Rattle.wire.specs.Encode.{Bytes}
 use Rattle.wire.specs.Made.{answerIn, bufferIn}
 use Rattle.table.specs.declared.Answer.the-variants.{Passes}
+use Rattle.table.specs.declared.Table.{Table}
 use Rattle.table.specs.Check.{tableAnswer, tableIn}
 use Rattle.table.specs.Encode.{encode}
-use Rattle.records.specs.Form as form
+use Rattle.records.specs.Form.{Form}
 use Rattle.journal.specs.Check as journal
-use Rattle.journal.specs.Check.{checkOf}
+use Rattle.journal.specs.Check.{checkIn}
 use Rattle.reaction.specs.Reaction.{reactionOf, reactOf}
+use Rattle.moves.specs.declared.Answer as moves
+use Rattle.moves.specs.declared.Answer.the-variants.{Reacts, Refused}
+use Rattle.moves.specs.Answer.{passes?}
+use Rattle.moves.specs.Moves.{judge, reactionOver, sumsOver, pathOver, movesOf, sumsAfter, pathAfter}
+use Rattle.tight.specs.declared.Answer as tight
+use Rattle.tight.specs.Tight.{tightTime, beside, reactTightOf}
 use Rattle.runtime.specs.Run.{madeUnder, runOf}
 use Rattle.convert.specs.declared.Answer.{Answer}
 use Rattle.convert.specs.declared.Answer.the-variants.{Converted, BufferTooShort}
@@ -29,27 +37,59 @@ pub record Converts (old buffer : List ℕ) (changed : ℕ) : Type 0 where
   pub bytes : Bytes old
   pub succeeds : answerFor old buffer ≡ Converted changed
 
+-- ---- The calculators under a table, whatever the check says of it
+
+-- The answer for one move, with the tight time beside it.
+abbrev pub tightUnder : Table → (P A : ℕ) → tight.Answer
+tightUnder t P A = beside (tightTime t P A) (reactionOf t P A)
+
+-- For several moves the answer, the lent sums afterwards and the lent path afterwards, by what the judge says.
+module _ (t : Table) (P A n : ℕ) where
+  abbrev pub movesUnder : (sums path : ℕ) → moves.Answer
+  movesUnder sums path =
+      let judged = judge t P A n sums path in
+      if passes? judged then Reacts (reactionOver t P A n) else Refused judged
+
+  abbrev pub sumsUnder : (sums : List ℕ) (path : ℕ) → List ℕ
+  sumsUnder sums path = if passes? (judge t P A n (length sums) path) then sumsOver t P A n sums else sums
+
+  abbrev pub pathUnder : (sums : ℕ) (path : List ℕ) → List ℕ
+  pathUnder sums path = if passes? (judge t P A n sums (length path)) then pathOver t P A n path else path
+
+-- ---- The theorems
+
 module _ (old buffer : List ℕ) where
   -- What it writes is the old table with those sets emptied, and passes the check.
   abbrev pub NowPasses : Type 0
   NowPasses = (newTable old buffer ≡ encode (emptied (tableIn old))) × (tableAnswer (newTable old buffer) ≡ Passes)
 
-  -- The journal check on the new table answers every journal as the machine's rules have it under the old one;
+  -- In every form, journals and short ones among them, the check on the new table answers as the machine's rules have it under the old one;
   abbrev pub SameJournals : Type 0
-  SameJournals = (s : List ℕ) → checkOf (newTable old buffer) s ≡ journal.answerIn form.journal (tableIn old) s
+  SameJournals = (F : Form) (s : List ℕ) → checkIn F (newTable old buffer) s ≡ journal.answerIn F (tableIn old) s
 
   -- so does the runtime with every stimulus,
   abbrev pub SameRuns : Type 0
   SameRuns = (s : List ℕ) → runOf (newTable old buffer) s ≡ madeUnder (tableIn old) s
 
-  -- and the calculator with every set of states and of inputs.
+  -- and the calculator with every set of states and of inputs,
   abbrev pub SameReactions : Type 0
   SameReactions = (P A : ℕ) → reactOf (newTable old buffer) P A ≡ reactionOf (tableIn old) P A
+
+  -- with the tight time beside it,
+  abbrev pub SameTightTimes : Type 0
+  SameTightTimes = (P A : ℕ) → reactTightOf (newTable old buffer) P A ≡ tightUnder (tableIn old) P A
+
+  -- and for every number of moves, with the sums and the path that it writes.
+  abbrev pub SameMoves : Type 0
+  SameMoves = (P A n : ℕ) (sums path : List ℕ) →
+      (movesOf (newTable old buffer) P A n (length sums) (length path) ≡ movesUnder (tableIn old) P A n (length sums) (length path))
+      × (sumsAfter (newTable old buffer) P A n sums (length path) ≡ sumsUnder (tableIn old) P A n sums (length path))
+      × (pathAfter (newTable old buffer) P A n (length sums) path ≡ pathUnder (tableIn old) P A n (length sums) path)
 
 -- Whatever it converts behaves as before.
 abbrev pub ConvertsFaithfully : Type 0
 ConvertsFaithfully = (old buffer : List ℕ) (changed : ℕ) → Converts old buffer changed →
-    NowPasses old buffer × SameJournals old buffer × SameRuns old buffer × SameReactions old buffer
+    NowPasses old buffer × SameJournals old buffer × SameRuns old buffer × SameReactions old buffer × SameTightTimes old buffer × SameMoves old buffer
 
 -- A table with holds that passes the check comes back byte for byte, with 0, in every buffer that has room.
 abbrev pub PassingComesBack : Type 0
