@@ -1,4 +1,4 @@
--- The converter: a table that passes by the old rules, with those delayed sets emptied that do nothing. docs/RULES.md, "Old tables".
+-- The converter: a table that passes by the old rules, with those delayed sets emptied that do nothing. docs/RULES.md, "Tables".
 use mathlib.Core.List.{List, _++_}
 use mathlib.Core.Bool.{_&&_, not}
 use Prim.Native.Nat.{ℕ, zero, suc, _+_}
