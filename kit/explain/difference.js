@@ -3,7 +3,7 @@
 import { listed, quoted, say } from '../names.js';
 import { has } from '../sets.js';
 import { accepted, clocks, freeFrom, holding, ownValue } from '../trace.js';
-import { slipOfTest, slipOfTick } from './slips.js';
+import { causeOf } from './cause.js';
 
 /** @typedef {import('../types.js').Trace} Trace */
 /** @typedef {import('../types.js').Step} Step */
@@ -16,7 +16,7 @@ import { slipOfTest, slipOfTick } from './slips.js';
  * @typedef {{trace: Trace, step: Step, record: JournalRecord, machine: Machine}} Case
  */
 
-/** @typedef {{sentences: string[], slip?: {name: import('../types.js').SlipName, says: string}|null}} Said */
+/** @typedef {{sentences: string[], slip?: import('./cause.js').Cause|null}} Said */
 
 /**
  * @param {Case} c
@@ -39,7 +39,7 @@ function explainPolled({ trace, record, machine }) {
 function explainTicked({ trace, step, record, machine }) {
   const { states, inputs } = trace.names;
   const [said, here, polled] = [quoted(states, record.value ?? 0), quoted(states, machine.state), quoted(inputs, machine.polled)];
-  const slip = slipOfTick(trace, step);
+  const slip = causeOf(trace, step);
   const says = say`The tick at ${record.time} says state ${said}`;
   if (machine.phase === 2) return { sentences: [say`${says}, but the test before it was held, so state ${here} stays.`], slip };
   const sentences = [say`${says}, but from ${here} the polled input ${polled} leads to ${quoted(states, ownValue(trace, step) ?? 0)}.`];
@@ -78,11 +78,11 @@ function why(trace, machine, time, clock) {
  * @param {Case} c
  * @returns {Said}
  */
-function explainFree({ trace, record, machine }) {
+function explainFree({ trace, step, record, machine }) {
   const held = holding(trace.table, machine, record.time).map((clock) => why(trace, machine, record.time, clock));
   const sentences = [say`The test at ${record.time} says free, but ${listed(held)}.`,
     say`The first test that can be free is at ${freeFrom(trace.table, machine, record.time)}.`];
-  const slip = slipOfTest(trace);
+  const slip = causeOf(trace, step);
   const delayedNow = clocks(trace.table, machine).some((clock) => has(clock.delays, machine.present));
   if (!slip && machine.present !== machine.polled && !delayedNow) {
     const present = quoted(trace.names.inputs, machine.present);
@@ -96,7 +96,7 @@ function explainFree({ trace, record, machine }) {
  * @param {Case} c
  * @returns {Said}
  */
-function explainHeld({ trace, record, machine }) {
+function explainHeld({ trace, step, record, machine }) {
   const { states, inputs, timers } = trace.names;
   const [state, polled] = [quoted(states, machine.state), quoted(inputs, machine.polled)];
   const here = clocks(trace.table, machine);
@@ -113,7 +113,7 @@ function explainHeld({ trace, record, machine }) {
     return clock.timer === null ? say`the hold of ${state} is passed: it ${entered(machine)}, and ${sum}`
       : say`timer ${quoted(timers, clock.timer)} is passed: it runs since ${clock.from}, and ${sum}`;
   });
-  return { sentences: [say`${says}, but ${listed(passed)}.`], slip: slipOfTest(trace) };
+  return { sentences: [say`${says}, but ${listed(passed)}.`], slip: causeOf(trace, step) };
 }
 
 /**

@@ -218,7 +218,8 @@ export function explainTrace(trace) {
   return {
     sentences,
     slip: slip ? say`The usual slip: ${slip.says}` : null,
-    slipName: slip ? slip.name : null,
+    slipName: slip?.names.length === 1 ? slip.names[0] : null,
+    ...(slip?.names.length === 2 ? { either: slip.names } : {}),
     wanted: ownValue(trace, step),
     blame: blame(trace, step.record),
   };

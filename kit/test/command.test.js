@@ -44,9 +44,10 @@ test('a refusal is shown at its line, with sentences and the usual slip', async 
   assert.match(sample('changed-verdict').split('\n')[line - 1].slice(column - 1), /^free/);
   assert.equal(lines[3].indexOf('^') - 6, column - 1);
   assert.match(out, /The test at 8 says free, but state 'busy' was entered at 3/);
-  assert.match(out, /The usual slip: a hold does not end when it is reached/);
   const [told] = (await ask(['check', 'changed-verdict.kv', '--json'], FILES)).lines;
-  assert.deepEqual([told.answer, told.number, told.place, told.slip, told.wanted, told.line], ['refused', 28, 76, 'hold-reached', 0, Number(line)]);
+  assert.deepEqual([told.answer, told.number, told.place, told.slip, told.wanted, told.line], ['refused', 28, 76, undefined, 0, Number(line)]);
+  assert.match((await ask(['check', 'slip-hold-reached.kv'], FILES)).out, /The usual slip: the hold was taken to end when it is reached/);
+  assert.equal((await ask(['check', 'slip-hold-reached.kv', '--json'], FILES)).lines[0].slip, 'hold-reached');
   const fromBytes = await ask(['check', 'table.bin', 'changed.bin', '--names', 'classroom.kv'], FILES);
   assert.match(fromBytes.out, /8 {2}test {3}free +# at byte 76\n.*state 'busy'/);
   assert.equal(fromBytes.err, 'Names are those of classroom.kv.\n');
