@@ -75,13 +75,13 @@ test('errors of students at the classroom\'s table, 100 cycles: the true one is 
 });
 
 test('the same, 5 to 15 cycles: no wrong one is named, whatever is', (t) => {
-  countAll(t, CLASSROOM, 200, 5, 15);
+  countAll(t, CLASSROOM, 400, 5, 15);
 });
 
 test('at a table with timers: the true one is named, alone or as one of two', (t) => {
-  allNamed(countAll(t, BURNER, 60, 200, 200));
+  allNamed(countAll(t, BURNER, 40, 120, 120));
 });
 
 test('at a table with five states: the true one is named, alone or as one of two', (t) => {
-  allNamed(countAll(t, MIXER, 60, 120, 120), NO_REGION);
+  allNamed(countAll(t, MIXER, 40, 120, 120), NO_REGION);
 });
