@@ -13,11 +13,14 @@ const JOURNAL_MAX = 65536;
 const REPORT_MAX = 1089;
 
 /**
- * So many bytes of each argument are handed over. Of a journal one more than the limit is enough to be refused with 19. Of a table what
- * stands behind 70,000 bytes changes no answer: fields with their right length end before 2,000, and no field claims more than 65,535.
+ * Bytes behind these change no answer. Of a journal one more than the limit is enough to be refused with 19. Of a table fields with their
+ * right length end before 2,000, and no field claims more than 65,535.
  */
+export const BYTES_READ = 70000;
+
+/** So many bytes of each argument are handed over. */
 const SIZES = {
-  table: 70000,
+  table: BYTES_READ,
   input: JOURNAL_MAX + 1,
   output: JOURNAL_MAX,
   sums: 4 * 32 * 32,

@@ -43,10 +43,11 @@ function stampedPlace(place) {
 }
 
 /**
+ * The library's answer about a journal of any form, under a table that passes.
  * @param {Library} library @param {Uint8Array} table @param {Uint8Array} journal @param {JournalForm} form
  * @returns {Verdict}
  */
-function ask(library, table, journal, form) {
+export function askJournal(library, table, journal, form) {
   if (form === 'short') return verdict(library.checkShort(table, journal), null);
   if (form === 'journal') return verdict(library.checkJournal(table, journal), null);
   const read = library.readStamped(journal);
@@ -128,7 +129,7 @@ export function traceJournal(library, given) {
   if (!table) return null;
   const shown = given.form ?? formOf(given.journal);
   const form = shown === 'stamped' || shown === 'short' ? shown : 'journal';
-  const verdict = ask(library, given.table, given.journal, form);
+  const verdict = askJournal(library, given.table, given.journal, form);
   const records = decodeRecords(given.journal, form);
   if (verdict.at === given.journal.length) records.push(missingRecord(records, verdict.at, form));
   const stop = verdict.at === null ? null : records.findIndex((record) => record.place === verdict.at);

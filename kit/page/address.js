@@ -2,16 +2,22 @@
 
 import { joinTexts } from './documents.js';
 import { byId } from './dom.js';
+import { tooLong } from './limits.js';
 import { toHash } from './link.js';
 
 /** @typedef {import('./page.js').Page} Page */
 
 const LINK_MOST = 30000;
 
-/** @param {Page} page */
+/**
+ * Other texts that came meanwhile have an address of their own.
+ * @param {Page} page
+ */
 export async function carry(page) {
-  const hash = await toHash(joinTexts(page.texts));
-  setAddress(page, hash.length <= LINK_MOST ? hash : '');
+  const { texts } = page;
+  const text = joinTexts(texts);
+  const hash = tooLong(texts) ? '' : await toHash(text);
+  if (joinTexts(page.texts) === text) setAddress(page, hash.length <= LINK_MOST ? hash : '');
 }
 
 /** @param {Page} page @param {string} hash */
@@ -26,6 +32,8 @@ export function setAddress(page, hash) {
 
 /** @param {Page} page */
 export async function showLink(page) {
+  const long = tooLong(page.texts);
+  if (long) return page.notice(`There is no link. ${long}`);
   const address = location.href.replace(/#.*$/, '');
   byId('link-text').value = `${address}#${await toHash(joinTexts(page.texts))}`;
   byId('link-box').showModal();

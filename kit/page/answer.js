@@ -23,6 +23,8 @@ import { spotOf } from './workspace.js';
  */
 
 const NOTHING = { meaning: '', sentences: [], slip: null, spot: null, mistakes: [] };
+/** @type {Said} */
+export const UNSAID = { ...NOTHING, look: 'quiet', line: '', about: '' };
 const PANE_NAMES = { table: 'Table', stimulus: 'Stimulus', journal: 'Journal' };
 const MISTAKES_SHOWN = 4;
 
@@ -76,7 +78,7 @@ export function sayAnswer(answers, subject) {
       spot, says: `${PANE_NAMES[spot.pane]}, line ${spot.line}: ${spot.says}`,
     }));
     const line = count === 1 ? 'A mistake in the text' : `${counted(count, 'mistake')} in the texts`;
-    return { ...NOTHING, look: 'mistake', line, about: 'not asked', meaning: 'the pictures wait until this is mended', mistakes };
+    return { ...NOTHING, look: 'mistake', line, about: 'not asked', meaning: 'the pictures are those of before, until this is mended', mistakes };
   }
   if (reading.table && tableRefused && tableExplanation) {
     return refused(answers, tableRefused, tableExplanation, reading.table, 'table', tableExplanation.blame.place);

@@ -52,7 +52,7 @@ export function splitText(source) {
       const comments = cutComments(current);
       current = found.get(pane) ?? [];
       found.set(pane, current);
-      current.push(line, ...comments);
+      for (const each of [line, ...comments]) current.push(each);
     } else {
       if (found.size === 0) found.set('table', current);
       current.push(line);

@@ -39,7 +39,10 @@ export function lookOf({ large, dark }, room) {
 export function draw(page) {
   const { subject, answers } = page;
   const stale = answers.reading.mistakes.length > 0;
-  for (const room of document.querySelectorAll('#pictures, #automaton-beside, #reaction-panel')) room.classList.toggle('stale', stale);
+  for (const room of document.querySelectorAll('#pictures, #automaton-beside, #reaction-panel')) {
+    room.classList.toggle('stale', stale);
+    room.toggleAttribute('inert', stale);
+  }
   showTools(page);
   if (stale) {
     for (const button of document.querySelectorAll('.stepping button')) button.toggleAttribute('disabled', true);

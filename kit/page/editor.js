@@ -59,6 +59,13 @@ export class Editor {
     this.draw();
   }
 
+  /** Without any mark or number. */
+  bare() {
+    this.marks = [];
+    this.numbers = new Map();
+    this.margin.textContent = this.marked.textContent = '';
+  }
+
   /** @param {number} line */
   reveal(line) {
     const { height, shift } = this.#measure();

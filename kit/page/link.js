@@ -8,6 +8,9 @@ import { TEXT_MAX } from '../notation.js';
  */
 const streams = globalThis;
 
+/** What stands behind the `#` if it carries anything. */
+export const CARRIES = /^#?(example|text|packed)=(.*)$/;
+
 /** @param {Uint8Array} bytes */
 function toBase64(bytes) {
   let binary = '';
@@ -59,7 +62,7 @@ export async function toHash(text) {
  * @returns {Promise<{example: string}|{text: string}|null>}  null if it carries nothing, or nothing that can be read
  */
 export async function fromHash(hash) {
-  const [, key, value] = /^#?(example|text|packed)=(.*)$/.exec(hash) ?? [];
+  const [, key, value] = CARRIES.exec(hash) ?? [];
   if (key === 'example') return { example: value };
   if (!key) return null;
   try {

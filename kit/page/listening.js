@@ -1,8 +1,9 @@
-/** What the reader does: buttons, tabs, keys, the diagram, files that are dropped. */
+/** What the reader does: buttons, tabs, keys, the diagram, what is dropped or pasted. */
 
 import { copyLink, showLink } from './address.js';
 import { byId, closeMenu } from './dom.js';
 import { redraw } from './drawing.js';
+import { tooLong } from './limits.js';
 import { openExample, openFiles } from './opening.js';
 import { listSavings } from './saving.js';
 import { move, select, selectTime } from './stepping.js';
@@ -19,6 +20,7 @@ export function listen(page) {
   listenToKeys(page);
   listenToDiagram(page);
   listenToDrops(page);
+  listenToPastes(page);
 }
 
 /** @param {Page} page */
@@ -45,8 +47,8 @@ function listenToButtons(page) {
 
 /** @param {Page} page */
 function listenToChoices(page) {
-  byId('files').addEventListener('change', async () => {
-    await openFiles(page, [...byId('files').files]);
+  byId('files').addEventListener('change', () => {
+    openFiles(page, [...byId('files').files]);
     byId('files').value = '';
   });
   byId('examples').addEventListener('change', () => openExample(page, byId('examples').value));
@@ -126,4 +128,22 @@ function listenToDrops(page) {
     event.preventDefault();
     openFiles(page, [...event.dataTransfer?.files ?? []]);
   });
+}
+
+/**
+ * A text that would be too long is not put in: a browser takes long to set it, and it would get no answer.
+ * @param {Page} page
+ */
+function listenToPastes(page) {
+  for (const pane of PANES) {
+    const { field } = page.editors[pane];
+    field.addEventListener('beforeinput', (/** @type {InputEvent} */ event) => {
+      const added = event.data ?? event.dataTransfer?.getData('text/plain') ?? '';
+      const text = field.value.slice(0, field.selectionStart) + added + field.value.slice(field.selectionEnd);
+      const long = added.length > 1 ? tooLong({ ...page.texts, [pane]: text }) : null;
+      if (!long) return;
+      event.preventDefault();
+      page.unanswered([`That is not put in. With it: ${long[0].toLowerCase()}${long.slice(1)}`], true);
+    });
+  }
 }

@@ -5,8 +5,10 @@ import { byId, fill, make } from './dom.js';
 import { redraw } from './drawing.js';
 import { fromBase64 } from './link.js';
 import { listen } from './listening.js';
+import { catchAll, sayFault } from './net.js';
 import { openAddress } from './opening.js';
 import { Page } from './page.js';
+import { showNothing } from './unanswered.js';
 
 /** @param {(import('../examples.js').Example)[]} samples */
 function listExamples(samples) {
@@ -29,8 +31,11 @@ function followWidth(page) {
 }
 
 async function begin() {
+  /** @type {Page|null} */
+  let page = null;
+  catchAll((error) => (page ? page.unanswered(sayFault(error)) : showNothing(sayFault(error))));
   const { wasm, samples, opens } = JSON.parse(byId('data').textContent);
-  const page = new Page(await loadLibrary(fromBase64(wasm)), samples, opens);
+  page = new Page(await loadLibrary(fromBase64(wasm)), samples, opens);
   listExamples(samples);
   listen(page);
   page.dark = matchMedia('(prefers-color-scheme: dark)').matches;
@@ -38,7 +43,7 @@ async function begin() {
   page.undo = [];
   byId('undo').hidden = true;
   redraw(page);
-  addEventListener('hashchange', () => openAddress(page));
+  addEventListener('hashchange', () => openAddress(/** @type {Page} */ (page)));
   followWidth(page);
   document.documentElement.dataset.ready = 'yes';
 }

@@ -2,29 +2,42 @@
 
 import { recordLine } from '../notation.js';
 import { carry } from './address.js';
-import { sayAnswer, showAnswer, subjectOf } from './answer.js';
+import { UNSAID, sayAnswer, showAnswer, subjectOf } from './answer.js';
 import { noTexts } from './documents.js';
 import { byId, fill } from './dom.js';
 import { draw, lookOf } from './drawing.js';
 import { Editor } from './editor.js';
+import { tooLong } from './limits.js';
 import { sayStep } from './machine.js';
 import { markTexts, showBadges, showFoot } from './marks.js';
 import { ReactionPanel } from './reaction.js';
 import { lookAtLine } from './stepping.js';
-import { PANES, ask } from './workspace.js';
+import { Together } from './together.js';
+import { closeOld, emptyPictures, showNothing } from './unanswered.js';
+import { PANES, ask, noAnswers } from './workspace.js';
 
 /** @typedef {import('../types.js').Library} Library */
 /** @typedef {import('./workspace.js').Pane} Pane */
 /** @typedef {import('./workspace.js').Texts} Texts */
 /** @typedef {import('./workspace.js').Spot} Spot */
 /** @typedef {import('./workspace.js').Subject} Subject */
+/** @typedef {{answers: import('./workspace.js').Answers, subject: Subject|null, said: import('./answer.js').Said}} Shown */
 /** @typedef {import('../examples.js').Example & {text: string}} Sample */
 
 const LINK_LATER = 400;
 const SPEAK_LATER = 700;
 const UNDO_MOST = 30;
 
+/** @param {Texts} texts @returns {Shown} */
+const nothing = (texts) => ({ answers: noAnswers(texts), subject: null, said: UNSAID });
+
 export class Page {
+  /**
+   * Handed out by `answers`, `subject` and `said` alone.
+   * @type {Shown}
+   */
+  #shown = nothing(noTexts());
+
   /**
    * @param {Library} library @param {Sample[]} samples
    * @param {string} opens  the example that is shown where the address carries nothing else
@@ -46,10 +59,9 @@ export class Page {
     this.large = false;
     this.dark = false;
     this.editors = /** @type {Record<Pane, Editor>} */ (Object.fromEntries(PANES.map((pane) => [pane, this.#editor(pane)])));
-    this.answers = ask(library, noTexts());
-    /** @type {Subject|null} */
-    this.subject = null;
-    this.said = sayAnswer(this.answers, null);
+    this.together = new Together(this);
+    /** Files and links are opened one after the other. @type {Promise<void>} */
+    this.opening = Promise.resolve();
     this.reaction = new ReactionPanel(library, {
       states: byId('reaction-states'), inputs: byId('reaction-inputs'), moves: byId('reaction-moves'),
       answer: byId('reaction-answer'), picture: byId('reaction-picture'),
@@ -69,13 +81,32 @@ export class Page {
     return { table: this.editors.table.value, stimulus: this.editors.stimulus.value, journal: this.editors.journal.value };
   }
 
+  /** What is shown, as long as the texts are those that it belongs to: nobody can show it beside others. */
+  #tied() {
+    const { texts } = this.#shown.answers;
+    if (PANES.some((pane) => texts[pane] !== this.editors[pane].value)) throw new Error('the answer belongs to other texts');
+    return this.#shown;
+  }
+
+  get answers() {
+    return this.#tied().answers;
+  }
+
+  get subject() {
+    return this.#tied().subject;
+  }
+
+  get said() {
+    return this.#tied().said;
+  }
+
   /** Something was typed: the answer comes at once, pictures with the next frame. */
   #typed() {
     byId('examples').value = '';
     this.notice('');
     this.step = { selected: null, stepping: false };
-    this.answer();
     this.later('link', LINK_LATER, () => carry(this));
+    this.answer();
   }
 
   /**
@@ -94,17 +125,17 @@ export class Page {
   replace(texts, pane) {
     this.undo = [...this.undo, this.texts].slice(-UNDO_MOST);
     this.#put(texts, pane);
-    this.later('link', LINK_LATER, () => carry(this));
   }
 
   /** @param {Texts} texts @param {Pane} pane */
   #put(texts, pane) {
-    for (const each of PANES) this.editors[each].value = texts[each];
+    this.later('link', LINK_LATER, () => carry(this));
     byId('undo').hidden = this.undo.length === 0;
+    for (const each of PANES) this.editors[each].value = texts[each];
     this.step = { selected: null, stepping: false };
-    fill(byId('tool-answer'));
     this.turnTo(pane);
     this.answer();
+    if (this.answers.reading.mistakes.length > 0) emptyPictures();
     requestAnimationFrame(() => this.#revealWrong());
   }
 
@@ -146,18 +177,47 @@ export class Page {
 
   /** Asks the library about all texts, and shows what it says. */
   answer() {
-    this.answers = ask(this.library, this.texts);
-    this.subject = this.answers.reading.mistakes.length > 0 ? null : subjectOf(this.answers, this.pane);
-    const said = sayAnswer(this.answers, this.subject);
-    this.said = said;
+    const { texts } = this;
+    if (this.#forget(texts)) closeOld();
+    const long = tooLong(texts);
+    if (long) return this.unanswered([long]);
+    const answers = ask(this.library, texts);
+    const subject = answers.reading.mistakes.length > 0 ? null : subjectOf(answers, this.pane);
+    const said = sayAnswer(answers, subject);
+    this.#shown = { answers, subject, said };
     this.say();
     const spoken = `${said.about}: ${said.line}. ${said.sentences[0] ?? said.mistakes[0]?.says ?? ''}`;
     this.later('spoken', SPEAK_LATER, () => fill(byId('spoken'), spoken));
-    showBadges(this.answers);
+    showBadges(answers);
     showFoot(this);
     markTexts(this);
-    cancelAnimationFrame(this.waiting.get('frame'));
+    this.together.follow(texts);
     this.waiting.set('frame', requestAnimationFrame(() => draw(this)));
+  }
+
+  /**
+   * What was answered before is out of reach, before anything else can fail.
+   * @param {Texts} texts  those that are there now
+   * @returns {boolean}  are they others than before?
+   */
+  #forget(texts) {
+    const old = this.#shown.answers.texts;
+    this.#shown = nothing(texts);
+    this.reaction.given = null;
+    clearTimeout(this.waiting.get('spoken'));
+    cancelAnimationFrame(this.waiting.get('frame'));
+    return PANES.some((pane) => old[pane] !== texts[pane]);
+  }
+
+  /**
+   * Nothing is answered, and nothing of an answer is left on the page.
+   * @param {string[]} sentences  why @param {boolean} [again]  can the texts that are there be asked about?
+   */
+  unanswered(sentences, again = false) {
+    this.#forget(this.texts);
+    this.step = { selected: null, stepping: false };
+    for (const pane of PANES) this.editors[pane].bare();
+    showNothing(sentences, again ? () => this.answer() : null);
   }
 
   /** The answer; or, where one goes through the records, a sentence about the one that is looked at. */

@@ -72,13 +72,21 @@ const SAVINGS = [
  * The menu: what there is to save stands ready, the rest is out of use.
  * @param {import('./page.js').Page} page
  */
-export function listSavings({ texts, answers, subject, title, dark, step: { selected } }) {
-  /** @type {State} */
-  const state = { texts, answers, subject, title, selected, theme: dark ? 'dark' : 'light' };
+export function listSavings(page) {
+  const state = stateOf(page);
   fill(byId('save-list'), ...SAVINGS.map((saving) => make('button', {
     type: 'button', disabled: !saving.can(state), onclick: () => {
-      saving.save(state);
+      saving.save(stateOf(page));
       closeMenu(byId('save'));
     },
   }, saving.label)));
+}
+
+/**
+ * What there is now, not when the menu was opened.
+ * @param {import('./page.js').Page} page
+ * @returns {State}
+ */
+function stateOf({ texts, answers, subject, title, dark, step: { selected } }) {
+  return { texts, answers, subject, title, selected, theme: dark ? 'dark' : 'light' };
 }

@@ -41,6 +41,7 @@ import { traceJournal, traceStimulus } from '../trace.js';
 
 /**
  * @typedef {Object} Answers
+ * @property {Texts} texts             those that the answers were given for
  * @property {Reading} reading
  * @property {Refusal|null} tableRefused
  * @property {Explanation|null} tableExplanation
@@ -51,6 +52,7 @@ import { traceJournal, traceStimulus } from '../trace.js';
 
 /** @type {Pane[]} */
 export const PANES = ['table', 'stimulus', 'journal'];
+const JOURNALS = ['journal', 'stamped', 'short'];
 
 /** @param {string} text */
 const linesOf = (text) => text.split(/\r\n|\n|\r/);
@@ -72,30 +74,28 @@ function headlessLine(lines) {
  * @returns {Reading}
  */
 export function readPanes(texts) {
-  /** @type {string[]} */
-  const all = [];
   /** @type {PaneMistake[]} */
   const headless = [];
-  const starts = PANES.map((pane) => {
-    const start = all.length;
+  const blocks = PANES.map((pane) => {
     const lines = linesOf(texts[pane]);
     const line = headlessLine(lines);
     const says = `this text begins with the words: krossvil ${pane}`;
     if (line > 0) headless.push({ pane, line, column: 1, width: Math.max(1, lines[line - 1].length), says });
-    all.push(...(line > 0 ? lines.map(() => '') : lines));
-    return start;
+    return line > 0 ? lines.map(() => '') : lines;
   });
+  const starts = [0, blocks[0].length, blocks[0].length + blocks[1].length];
+  const all = blocks.flat();
   const text = readText(all.join('\n'));
   const place = (/** @type {number} */ line) => {
     const k = Math.max(0, starts.filter((start) => start < line).length - 1);
     return { pane: PANES[k], line: line - starts[k] };
   };
   const said = headless.length > 0 && text.parts.length === 0 && all.every((line) => line.trim() === '') ? [] : text.mistakes;
-  const mistakes = [...headless, ...said.map((mistake) => ({ ...mistake, ...place(mistake.line) }))];
-  const part = (/** @type {string[]} */ kinds) => text.parts.find(({ kind }) => kinds.includes(kind)) ?? null;
-  return {
-    mistakes, names: text.names, place, table: part(['table']), stimulus: part(['stimulus']), journal: part(['journal', 'stamped', 'short']),
-  };
+  const parts = (/** @type {string[]} */ kinds) => text.parts.filter(({ kind }) => kinds.includes(kind));
+  const [journal = null, ...others] = parts(JOURNALS);
+  const second = others.map(({ line }) => ({ line, column: 1, width: all[line - 1].length, says: 'a second journal; one at a time is answered' }));
+  const mistakes = [...headless, ...[...said, ...second].map((mistake) => ({ ...mistake, ...place(mistake.line) }))];
+  return { mistakes, names: text.names, place, table: parts(['table'])[0] ?? null, stimulus: parts(['stimulus'])[0] ?? null, journal };
 }
 
 /**
@@ -139,14 +139,24 @@ function stimulusSubject(library, reading, table) {
 }
 
 /**
+ * Nothing is answered about these texts.
+ * @param {Texts} texts
+ * @returns {Answers}
+ */
+export function noAnswers(texts) {
+  const place = (/** @type {number} */ line) => ({ pane: PANES[0], line });
+  const reading = { mistakes: [], names: null, table: null, stimulus: null, journal: null, place };
+  return { texts, reading, tableRefused: null, tableExplanation: null, decoded: null, journal: null, stimulus: null };
+}
+
+/**
  * Asks the library everything that the three texts allow.
  * @param {Library} library @param {Texts} texts
  * @returns {Answers}
  */
 export function ask(library, texts) {
   const reading = readPanes(texts);
-  /** @type {Answers} */
-  const answers = { reading, tableRefused: null, tableExplanation: null, decoded: null, journal: null, stimulus: null };
+  const answers = { ...noAnswers(texts), reading };
   if (!reading.table) return answers;
   const { bytes } = reading.table;
   const checked = library.checkTable(bytes);

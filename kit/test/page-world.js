@@ -25,11 +25,11 @@ after(async () => {
 });
 
 /** A tab with an example; what it complained about and asked for is looked at when the test ends. */
-export async function open(t, hash, size) {
-  const tab = await browser.open(`${FILE.href}#${hash}`, size);
+export async function open(t, hash, size, page = FILE.href) {
+  const tab = await browser.open(`${page}#${hash}`, size);
   t.after(async () => {
     assert.deepEqual(tab.complaints, []);
-    assert.deepEqual(tab.requests.filter((url) => url.split('#')[0] !== FILE.href && !/^(blob|data):/.test(url)), []);
+    assert.deepEqual(tab.requests.filter((url) => url.split('#')[0] !== page && !/^(blob|data):/.test(url)), []);
     await tab.close();
   });
   return tab;

