@@ -89,15 +89,16 @@ function sameBytes(one, other) {
 }
 
 /**
- * Records that name members of a table that is gone: the same bytes, in the words of the new table.
+ * Records that name members of a table that is gone: the same bytes, in the words of the new table. Of what is wrong in two texts for one
+ * reason only the first is a mistake, so each is looked at when the ones before are mended.
  * @param {Texts} texts @param {Texts} old @param {Set<Pane>} filled
  * @returns {Texts}
  */
 function renamed(texts, old, filled) {
-  const [now, was] = [readPanes(texts), readPanes(old)];
+  const was = readPanes(old);
   const result = { ...texts };
   for (const pane of PANES) {
-    const part = was[pane];
+    const [now, part] = [readPanes(result), was[pane]];
     const lost = !filled.has(pane) && now.mistakes.some((mistake) => mistake.pane === pane);
     if (lost && part && part.kind !== 'table') result[pane] = recordsText(part.bytes, part.kind, now.names);
   }
