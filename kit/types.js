@@ -146,6 +146,7 @@
  *   traceStimulus(library: Library, given: {table: Uint8Array, stimulus: Uint8Array, names?: Names}): Trace | null
  *       only of a stimulus that the runtime refuses; of any other trace the journal that library.run gives.
  *       Its records before the refusal have the values that the runtime found.
+ *   askJournal(library: Library, table: Uint8Array, journal: Uint8Array, form: Form): the library's answer alone
  *   accepted(trace: Trace): Step[]                  the steps that were accepted
  *   clocks(table: Table, machine: Machine): Clock[] what can hold a test in the machine's state
  *   holding(table: Table, machine: Machine, time: number): Clock[]   those that hold a test of the polled input at that time
@@ -243,7 +244,10 @@
  *   decodeRecords(bytes: Uint8Array, form: Form): Record[]
  *   recordBytes(form: Form, kind: Kind, written: number, value: number): number[]
  *   formOf(bytes: Uint8Array): 'table'|Form              what the first bytes show; it is a guess for broken ones
+ *   isTag(byte: number): boolean                         does a field of ours begin with it?
  *   FORMS: tags, widths and limits of the forms
+ * looks-like.js exports
+ *   looksLike(bytes: Uint8Array): string|null            what bytes of another kind look like, as `a PNG picture`
  * rerun.js exports
  *   rerun(library: Library, given: {table: Uint8Array, journal: Uint8Array, form: Form}): the run of a journal's own stimulus, and every
  *       record that differs from it: {ok: true, bytes, differences: {number, record, own}[]}, or the refusal of the stimulus, or null
@@ -255,6 +259,7 @@
 /**
  * library.js exports
  *   loadLibrary(wasm: BufferSource): Promise<Library>
+ *   BYTES_READ: bytes behind these change no answer
  *   newReport(): BigUint64Array                          a report of no journals
  *   readReport(report: BigUint64Array, states: number, inputs: number): {journals, dwell: number[], pairs: number[][], entries: number[]}
  *

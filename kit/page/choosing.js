@@ -32,13 +32,14 @@ export function choose(files) {
   const having = (/** @type {Pane} */ pane, /** @type {typeof known} */ among) => among.filter(({ panes }) => panes.includes(pane));
   const [table, ...tables] = having('table', known);
   const [stimulus, ...stimuli] = having('stimulus', known.filter((each) => !tables.includes(each)));
+  const second = (/** @type {string} */ what, /** @type {string} */ first) => `has a second ${what}, beside that of ${first}. Open it alone.`;
   const left = [
-    ...tables.map(({ file: { name } }) => ({ name, why: `is left: ${table.file.name} has a table too. Open it alone.` })),
-    ...stimuli.map(({ file: { name } }) => ({ name, why: `is left: ${stimulus.file.name} has a stimulus too. Open it alone.` })),
+    ...tables.map(({ file: { name } }) => ({ name, why: second('table', table.file.name) })),
+    ...stimuli.map(({ file: { name } }) => ({ name, why: second('stimulus', stimulus.file.name) })),
   ];
   const journals = having('journal', known.filter((each) => ![...tables, ...stimuli].includes(each)));
   const many = journals.slice(JOURNALS_MOST).map(({ file: { name } }) => (
-    { name, why: `is left: at most ${JOURNALS_MOST} journals are opened together. The command checks any number.` }));
+    { name, why: `comes after ${JOURNALS_MOST} journals, the most that are opened together. The command checks any number.` }));
   const first = journals.find((each) => each !== table && each !== stimulus);
   const opened = known.filter((each) => [table, stimulus, first].includes(each)).map(({ file }) => file);
   return { opened, journals: journals.slice(0, JOURNALS_MOST).map(({ file }) => file), left: [...left, ...many] };

@@ -68,9 +68,7 @@ function listenToTabs(page) {
       if (!by) return;
       event.preventDefault();
       event.stopPropagation();
-      const other = PANES[(k + by) % PANES.length];
-      page.look(other);
-      byId(`tab-${other}`).focus();
+      page.look(PANES[(k + by) % PANES.length]);
     });
   }
 }

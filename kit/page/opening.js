@@ -6,7 +6,7 @@ import { noTexts, splitText, takeFiles } from './documents.js';
 import { byId } from './dom.js';
 import { tooLong } from './limits.js';
 import { CARRIES, fromHash } from './link.js';
-import { receive } from './receiving.js';
+import { receive, sayLeft } from './receiving.js';
 
 /** @typedef {import('./page.js').Page} Page */
 
@@ -51,7 +51,7 @@ export function openFiles(page, files) {
     const left = [...unread, ...others];
     const { texts, filled } = takeFiles(page.texts, opened.map(({ bytes }) => bytes));
     const long = tooLong(texts);
-    if (long) left.push(...opened.map(({ name }) => ({ name, why: `is not opened. ${long}` })));
+    if (long) left.push(...opened.map(({ name }) => ({ name, why: `is too long beside the other texts. ${long}` })));
     if (long || opened.length === 0) return refuse(page, left);
     page.title = namesOf(opened);
     byId('examples').value = '';
@@ -65,8 +65,8 @@ export function openFiles(page, files) {
 function refuse(page, left) {
   if (left.length === 0) return;
   page.notice(`Not opened: ${namesOf(left)}`);
-  const sentences = left.slice(0, NAMED).map(({ name, why }) => `${name} ${why}`);
-  page.unanswered(left.length > NAMED ? [...sentences, `${left.length - NAMED} others are not opened either.`] : sentences, true);
+  const more = left.length > NAMED ? [`Not opened: ${left.length - NAMED} others.`] : [];
+  page.unanswered([...left.slice(0, NAMED).map(sayLeft), ...more, 'The texts are as they were.'], true);
 }
 
 /** @param {{name: string}[]} files */

@@ -2,11 +2,11 @@
 
 import { recordLine } from '../notation.js';
 import { carry } from './address.js';
-import { UNSAID, sayAnswer, showAnswer, subjectOf } from './answer.js';
-import { noTexts } from './documents.js';
+import { sayAnswer, showAnswer, subjectOf } from './answer.js';
 import { byId, fill } from './dom.js';
 import { draw, lookOf } from './drawing.js';
 import { Editor } from './editor.js';
+import { Held } from './held.js';
 import { tooLong } from './limits.js';
 import { sayStep } from './machine.js';
 import { markTexts, showBadges, showFoot } from './marks.js';
@@ -14,29 +14,20 @@ import { ReactionPanel } from './reaction.js';
 import { lookAtLine } from './stepping.js';
 import { Together } from './together.js';
 import { closeOld, emptyPictures, showNothing } from './unanswered.js';
-import { PANES, ask, noAnswers } from './workspace.js';
+import { PANES, ask } from './workspace.js';
 
 /** @typedef {import('../types.js').Library} Library */
 /** @typedef {import('./workspace.js').Pane} Pane */
 /** @typedef {import('./workspace.js').Texts} Texts */
 /** @typedef {import('./workspace.js').Spot} Spot */
-/** @typedef {import('./workspace.js').Subject} Subject */
-/** @typedef {{answers: import('./workspace.js').Answers, subject: Subject|null, said: import('./answer.js').Said}} Shown */
 /** @typedef {import('../examples.js').Example & {text: string}} Sample */
 
 const LINK_LATER = 400;
 const SPEAK_LATER = 700;
 const UNDO_MOST = 30;
 
-/** @param {Texts} texts @returns {Shown} */
-const nothing = (texts) => ({ answers: noAnswers(texts), subject: null, said: UNSAID });
-
 export class Page {
-  /**
-   * Handed out by `answers`, `subject` and `said` alone.
-   * @type {Shown}
-   */
-  #shown = nothing(noTexts());
+  #held = new Held(() => this.texts);
 
   /**
    * @param {Library} library @param {Sample[]} samples
@@ -81,23 +72,16 @@ export class Page {
     return { table: this.editors.table.value, stimulus: this.editors.stimulus.value, journal: this.editors.journal.value };
   }
 
-  /** What is shown, as long as the texts are those that it belongs to: nobody can show it beside others. */
-  #tied() {
-    const { texts } = this.#shown.answers;
-    if (PANES.some((pane) => texts[pane] !== this.editors[pane].value)) throw new Error('the answer belongs to other texts');
-    return this.#shown;
-  }
-
   get answers() {
-    return this.#tied().answers;
+    return this.#held.get().answers;
   }
 
   get subject() {
-    return this.#tied().subject;
+    return this.#held.get().subject;
   }
 
   get said() {
-    return this.#tied().said;
+    return this.#held.get().said;
   }
 
   /** Something was typed: the answer comes at once, pictures with the next frame. */
@@ -164,6 +148,7 @@ export class Page {
   /** @param {Pane} pane */
   look(pane) {
     this.turnTo(pane);
+    byId(`tab-${pane}`).focus({ preventScroll: true });
     this.step = { selected: null, stepping: false };
     this.answer();
   }
@@ -178,13 +163,13 @@ export class Page {
   /** Asks the library about all texts, and shows what it says. */
   answer() {
     const { texts } = this;
-    if (this.#forget(texts)) closeOld();
+    if (this.#forget()) closeOld();
     const long = tooLong(texts);
     if (long) return this.unanswered([long]);
     const answers = ask(this.library, texts);
     const subject = answers.reading.mistakes.length > 0 ? null : subjectOf(answers, this.pane);
     const said = sayAnswer(answers, subject);
-    this.#shown = { answers, subject, said };
+    this.#held.hold({ answers, subject, said });
     this.say();
     const spoken = `${said.about}: ${said.line}. ${said.sentences[0] ?? said.mistakes[0]?.says ?? ''}`;
     this.later('spoken', SPEAK_LATER, () => fill(byId('spoken'), spoken));
@@ -195,18 +180,12 @@ export class Page {
     this.waiting.set('frame', requestAnimationFrame(() => draw(this)));
   }
 
-  /**
-   * What was answered before is out of reach, before anything else can fail.
-   * @param {Texts} texts  those that are there now
-   * @returns {boolean}  are they others than before?
-   */
-  #forget(texts) {
-    const old = this.#shown.answers.texts;
-    this.#shown = nothing(texts);
+  /** What was answered before is out of reach, before anything else can fail. Says whether the texts are others now. */
+  #forget() {
     this.reaction.given = null;
     clearTimeout(this.waiting.get('spoken'));
     cancelAnimationFrame(this.waiting.get('frame'));
-    return PANES.some((pane) => old[pane] !== texts[pane]);
+    return this.#held.drop();
   }
 
   /**
@@ -214,10 +193,10 @@ export class Page {
    * @param {string[]} sentences  why @param {boolean} [again]  can the texts that are there be asked about?
    */
   unanswered(sentences, again = false) {
-    this.#forget(this.texts);
+    this.#forget();
     this.step = { selected: null, stepping: false };
     for (const pane of PANES) this.editors[pane].bare();
-    showNothing(sentences, again ? () => this.answer() : null);
+    showNothing(sentences, again ? () => this.look(this.pane) : null);
   }
 
   /** The answer; or, where one goes through the records, a sentence about the one that is looked at. */

@@ -11,6 +11,9 @@ import { FORM_WORDS, TEXT_MAX, isText } from '../notation.js';
 
 const START = 1000;
 
+/** @param {Left} left */
+export const sayLeft = ({ name, why }) => `Not opened: ${name} ${why}`;
+
 /**
  * Bytes that are a little too long are taken: the library refuses them itself.
  * @param {Uint8Array} start @param {number} size

@@ -6,6 +6,7 @@ import { isText, recordsText } from '../notation.js';
 import { askJournal } from '../trace.js';
 import { splitText } from './documents.js';
 import { byId, fill, make } from './dom.js';
+import { sayLeft } from './receiving.js';
 import { readPanes } from './workspace.js';
 
 /** @typedef {import('./page.js').Page} Page */
@@ -63,7 +64,7 @@ export class Together {
     this.table = texts.table;
     const inPane = rows.find(({ file }) => textOf(file, reading.names) === texts.journal);
     this.chosen = inPane ? { button: inPane.button, text: texts.journal } : null;
-    fill(byId('together-list'), ...rows.map(({ row }) => row), ...left.map(({ name, why }) => make('li', { class: 'hint' }, `${name} ${why}`)));
+    fill(byId('together-list'), ...rows.map(({ row }) => row), ...left.map((each) => make('li', { class: 'hint' }, sayLeft(each))));
     byId('together').hidden = rows.length + left.length === 0;
     this.follow(texts);
   }

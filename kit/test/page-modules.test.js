@@ -4,14 +4,19 @@ import assert from 'node:assert/strict';
 import { test } from 'node:test';
 import { refusalLine } from '../answers.js';
 import { EXAMPLES } from '../examples.js';
-import { readText } from '../notation.js';
+import { FORMS, formOf, recordBytes } from '../fields.js';
+import { BYTES_READ } from '../library.js';
+import { FORM_WORDS, TEXT_MAX, readText, tableText } from '../notation.js';
 import { sayAnswer, subjectOf } from '../page/answer.js';
 import { joinTexts, noTexts, splitText, takeFiles } from '../page/documents.js';
+import { LINES_MOST, tooLong } from '../page/limits.js';
 import { fromHash, toHash } from '../page/link.js';
 import { machineAt, machineCells, sayStep } from '../page/machine.js';
 import { answerReaction } from '../page/reaction.js';
+import { whyNot } from '../page/receiving.js';
 import { RUN, TOOLS } from '../page/tools.js';
 import { PANES, ask, readPanes } from '../page/workspace.js';
+import { askJournal } from '../trace.js';
 import { Chance } from './chance.js';
 import { library, sameBytes, sample } from './core.js';
 import { drawRun, perhapsDamaged } from './draw.js';
@@ -143,4 +148,65 @@ test('links carry every text, and wrong ones carry nothing', async () => {
   const bomb = await toHash('a'.repeat(7000000));
   assert.ok(bomb.length < 20000);
   assert.equal(await fromHash(`#${bomb}`), null);
+});
+
+/** So many bytes that begin as a run of a form does. */
+function recordsOf(form, length) {
+  const bytes = new Uint8Array(length);
+  bytes.set(recordBytes(form, 'input', 0, 0));
+  const record = recordBytes(form, 'change', 0, 1);
+  for (let at = 4; at < length; at += record.length) bytes.set(record.slice(0, length - at), at);
+  return bytes;
+}
+
+test('the page has the answer of the library about bytes of every form around its limit', () => {
+  const table = readText(sample('classroom')).parts[0].bytes;
+  const texts = { ...noTexts(), table: tableText(table) };
+  for (const [form, { max }] of Object.entries(FORMS)) {
+    for (const length of [max - 1, max, max + 1]) {
+      const bytes = recordsOf(form, length);
+      assert.equal(formOf(bytes), form);
+      assert.equal(whyNot(bytes, length), null);
+      const answers = ask(library, takeFiles(texts, [bytes]).texts);
+      const own = form === 'stimulus' ? library.run(table, bytes) : askJournal(library, table, bytes, form).refused;
+      assert.equal(sayAnswer(answers, subjectOf(answers, 'journal')).line, refusalLine(own), `${form} ${length}`);
+      assert.equal(own.number === 19, length > max, `${form} ${length}`);
+    }
+  }
+});
+
+test('files and texts are refused from their limits on, with the limit', () => {
+  for (const [form, { max }] of Object.entries(FORMS)) {
+    const bytes = recordsOf(form, 1000);
+    assert.equal(whyNot(bytes, BYTES_READ), null);
+    const limit = max.toLocaleString('en');
+    assert.equal(whyNot(bytes, BYTES_READ + 1), `has 70,001 bytes; of a ${FORM_WORDS[form]} at most ${limit} are read.`);
+  }
+  const text = Buffer.from('krossvil table');
+  assert.equal(whyNot(text, TEXT_MAX), null);
+  assert.equal(whyNot(text, TEXT_MAX + 1), 'has 6,000,001 bytes; of a text at most 6,000,000 are read.');
+  for (const pane of PANES) {
+    const of = (character, count, more = '') => tooLong({ ...noTexts(), [pane]: character.repeat(count) + more });
+    assert.deepEqual([of('x', TEXT_MAX - 3), of('x', TEXT_MAX - 2)], [null, null]);
+    assert.equal(of('x', TEXT_MAX - 1), 'The texts have 6,000,001 bytes in all; at most 6,000,000 are read.');
+    assert.equal(of('\u00fc', TEXT_MAX / 2 - 1), null);
+    assert.equal(of('\u00fc', TEXT_MAX / 2 - 1, 'x'), 'The texts have 6,000,001 bytes in all; at most 6,000,000 are read.');
+    assert.equal(of('\n', LINES_MOST - 3), null);
+    assert.equal(of('\n', LINES_MOST - 2), 'The texts have 200,001 lines in all; at most 200,000 are read here.');
+  }
+});
+
+test('two journals in one text are not answered as one', () => {
+  const [table, , journal] = sample('classroom').split(/(?=^krossvil )/m);
+  const { mistakes } = readPanes({ table, stimulus: '', journal: `${journal}krossvil short journal\ninput train\n` });
+  assert.deepEqual(mistakes.map(({ pane, line, says }) => [pane, line, says]),
+    [['journal', journal.split('\n').length, 'a second journal; one at a time is answered']]);
+});
+
+test('texts with very many lines are written, split and read', () => {
+  const bytes = new Uint8Array(2200000);
+  assert.ok(sameBytes(readText(tableText(bytes)).parts[0].bytes, bytes));
+  const comments = '# nothing\n'.repeat(140000);
+  assert.equal(splitText(`krossvil table\n${comments}krossvil journal\ninput 0\n`).journal.split('\n').length, 140003);
+  assert.deepEqual(readPanes({ ...noTexts(), journal: `krossvil journal\n${comments}input 0\n` }).journal.bytes.length, 4);
 });
