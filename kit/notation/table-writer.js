@@ -16,7 +16,7 @@ function rawLines(bytes) {
   const lines = [];
   for (let at = 0; at < bytes.length || lines.length === 0;) {
     const end = fieldAt(bytes, at)?.end ?? bytes.length;
-    for (const line of bytesLines(bytes.subarray(at, end))) lines.push(line);
+    lines.push(...bytesLines(bytes.subarray(at, end)));
     at = Math.max(end, at + 1);
   }
   return lines;

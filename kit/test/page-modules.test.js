@@ -203,9 +203,7 @@ test('two journals in one text are not answered as one', () => {
     [['journal', journal.split('\n').length, 'a second journal; one at a time is answered']]);
 });
 
-test('texts with very many lines are written, split and read', () => {
-  const bytes = new Uint8Array(2200000);
-  assert.ok(sameBytes(readText(tableText(bytes)).parts[0].bytes, bytes));
+test('texts with very many lines are split and read', () => {
   const comments = '# nothing\n'.repeat(140000);
   assert.equal(splitText(`krossvil table\n${comments}krossvil journal\ninput 0\n`).journal.split('\n').length, 140003);
   assert.deepEqual(readPanes({ ...noTexts(), journal: `krossvil journal\n${comments}input 0\n` }).journal.bytes.length, 4);
