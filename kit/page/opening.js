@@ -29,9 +29,8 @@ export function openExample(page, name) {
   const sample = page.samples.find((each) => each.name === name);
   if (!sample) return false;
   const texts = { ...noTexts(), ...splitText(sample.text) };
-  page.title = sample.title;
   page.together.forget();
-  page.replace(texts, texts.journal ? 'journal' : 'table');
+  page.replace(texts, texts.journal ? 'journal' : 'table', sample.title);
   clearTimeout(page.waiting.get('link'));
   byId('examples').value = name;
   page.notice(sample.says);
@@ -53,11 +52,9 @@ export function openFiles(page, files) {
     const long = tooLong(texts);
     if (long) left.push(...opened.map(({ name }) => ({ name, why: `is too long beside the other texts. ${long}` })));
     if (long || opened.length === 0) return refuse(page, left);
-    page.title = namesOf(opened);
-    byId('examples').value = '';
-    page.notice(`Opened: ${page.title}`);
-    page.replace(texts, filled.includes('journal') ? 'journal' : filled[filled.length - 1] ?? page.pane);
+    page.replace(texts, filled.includes('journal') ? 'journal' : filled[filled.length - 1] ?? page.pane, namesOf(opened));
     page.together.show(journals, left);
+    page.notice(`Opened: ${namesOf(opened)}${byId('together').hidden ? '' : '. The others stand below the answer.'}`);
   });
 }
 
@@ -95,9 +92,7 @@ export function openAddress(page) {
 
 /** @param {Page} page @param {string} text */
 function openLink(page, text) {
-  byId('examples').value = '';
-  page.title = 'A journal';
   page.together.forget();
   const texts = { ...noTexts(), ...splitText(text) };
-  page.replace(texts, texts.journal ? 'journal' : texts.stimulus ? 'stimulus' : 'table');
+  page.replace(texts, texts.journal ? 'journal' : texts.stimulus ? 'stimulus' : 'table', 'A journal');
 }

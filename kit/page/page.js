@@ -25,6 +25,10 @@ import { PANES, ask } from './workspace.js';
 const LINK_LATER = 400;
 const SPEAK_LATER = 700;
 const UNDO_MOST = 30;
+const CHANGED = ', changed';
+
+/** @param {string} title */
+const changed = (title) => (title.endsWith(CHANGED) ? title : title + CHANGED);
 
 export class Page {
   #held = new Held(() => this.texts);
@@ -37,12 +41,13 @@ export class Page {
     this.library = library;
     this.samples = samples;
     this.opens = opens;
+    /** What the texts are called in pictures. */
     this.title = 'A journal';
     /** @type {Pane} */
     this.pane = 'journal';
     /** @type {{selected: number|null, stepping: boolean}} */
     this.step = { selected: null, stepping: false };
-    /** @type {Texts[]} */
+    /** @type {{texts: Texts, title: string}[]} */
     this.undo = [];
     this.hash = '';
     /** @type {Map<string, any>} */
@@ -88,6 +93,7 @@ export class Page {
   #typed() {
     byId('examples').value = '';
     this.notice('');
+    this.title = changed(this.title);
     this.step = { selected: null, stepping: false };
     this.later('link', LINK_LATER, () => carry(this));
     this.answer();
@@ -104,17 +110,20 @@ export class Page {
 
   /**
    * Texts from elsewhere in the place of those that are there.
-   * @param {Texts} texts @param {Pane} pane
+   * @param {Texts} texts @param {Pane} pane @param {string} [title]
    */
-  replace(texts, pane) {
-    this.undo = [...this.undo, this.texts].slice(-UNDO_MOST);
-    this.#put(texts, pane);
+  replace(texts, pane, title = changed(this.title)) {
+    this.undo = [...this.undo, { texts: this.texts, title: this.title }].slice(-UNDO_MOST);
+    this.#put(texts, pane, title);
   }
 
-  /** @param {Texts} texts @param {Pane} pane */
-  #put(texts, pane) {
+  /** @param {Texts} texts @param {Pane} pane @param {string} title */
+  #put(texts, pane, title) {
     this.later('link', LINK_LATER, () => carry(this));
+    this.title = title;
     byId('undo').hidden = this.undo.length === 0;
+    byId('examples').value = '';
+    this.notice('');
     for (const each of PANES) this.editors[each].value = texts[each];
     this.step = { selected: null, stepping: false };
     this.turnTo(pane);
@@ -130,8 +139,8 @@ export class Page {
   }
 
   takeBack() {
-    const texts = this.undo.pop();
-    if (texts) this.#put(texts, this.pane);
+    const before = this.undo.pop();
+    if (before) this.#put(before.texts, this.pane, before.title);
   }
 
   /** @param {Pane} pane */

@@ -81,9 +81,8 @@ export class Together {
     const { page } = this;
     const text = textOf(file, page.answers.reading.names);
     this.chosen = { button, text };
-    page.title = file.name;
+    page.replace({ ...page.texts, journal: text }, 'journal', file.name);
     page.notice(`Opened: ${file.name}`);
-    page.replace({ ...page.texts, journal: text }, 'journal');
   }
 
   /**

@@ -3,6 +3,7 @@
 import assert from 'node:assert/strict';
 import { rmSync } from 'node:fs';
 import { test } from 'node:test';
+import { EXAMPLES } from '../examples.js';
 import { DRIVER } from './page-driver.js';
 import { faultyPage } from './page-faults.js';
 import { NOTHING, dropMade, made, partsOf, pictures } from './page-given.js';
@@ -83,4 +84,23 @@ test('in the place of a link that cannot be read nothing is answered', async (t)
     await tab.click('#again');
     assert.equal(await tab.text(VERDICT), expected('changed-verdict'));
   }
+});
+
+test('no picture has the name of other texts than its own', async (t) => {
+  const tab = await open(t, 'example=classroom');
+  const titleOf = (name) => EXAMPLES.find((each) => each.name === name).title;
+  const names = async () => [await tab.text('#diagram svg title'), await tab.value("document.getElementById('examples').value"), await tab.text('#notice')];
+  await choose(tab, 'changed-verdict');
+  assert.deepEqual((await names()).slice(0, 2), [titleOf('changed-verdict'), 'changed-verdict']);
+  await tab.click('#undo');
+  assert.deepEqual(await names(), [titleOf('classroom'), '', '']);
+  assert.equal(await tab.text(VERDICT), expected('classroom'));
+  await tab.until("location.hash.startsWith('#packed=')");
+  await caretBehind(tab, 'journal', 'krossvil journal');
+  await tab.type('##');
+  assert.deepEqual(await names(), [`${titleOf('classroom')}, changed`, '', '']);
+  await choose(tab, 'changed-verdict');
+  await tab.click('#tool-compare');
+  await tab.click('#tool-put');
+  assert.deepEqual(await names(), [`${titleOf('changed-verdict')}, changed`, '', '']);
 });
