@@ -48,7 +48,9 @@ export function head(view) {
   return { markup: [lines, text(side, below, firstThatFits(answerWords(trace), room, style.size, true), style)], height: below + 12 };
 }
 
-/** @typedef {{word: string, sign: (x: number, y: number) => import('../svg.js').Markup}} Entry */
+/** @typedef {{words: string[], sign: (x: number, y: number) => import('../svg.js').Markup}} Entry   its words in full, and in short */
+
+const PHASES = [['waits for the poll', 'before the poll'], ['polled, not yet tested', 'polled'], ['tested: held', 'held'], ['tested: free', 'free']];
 
 /**
  * @param {View} view
@@ -61,19 +63,23 @@ function legendEntries({ theme, lanes, trace, hatch, dense }) {
   const stroke = (colour) => (x, y) => line(x + 10, y - 11, x + 10, y + 2, colour, 1.5);
   /** @type {Entry['sign']} */
   const dot = (x, y) => group({}, line(x + 10, y - 13, x + 10, y + 4, theme.held, 2.4), circle(x + 10, y - 4.5, 5, { fill: theme.held }));
-  const phases = ['waits for the poll', 'polled, not yet tested', 'tested: held', 'tested: free'];
+  const tests = [{ words: ['tests that are held', 'held tests'], sign: stroke(theme.held) },
+    { words: ['tests that are free', 'free tests'], sign: stroke(theme.free) }];
   /** @type {Entry} */
-  const delayed = { word: 'input delayed in this state', sign: (x, y) => rect(x, y - 8, 20, 7, { fill: theme.heldFill }) };
+  const delayed = { words: ['input delayed in this state', 'input delayed'], sign: (x, y) => rect(x, y - 8, 20, 7, { fill: theme.heldFill }) };
   return [
-    ...(dense ? [{ word: 'tests that are held', sign: stroke(theme.held) }, { word: 'tests that are free', sign: stroke(theme.free) }]
-      : phases.map((word, phase) => ({ word, sign: swatch(theme.phases[phase]) }))),
+    ...(dense ? tests : PHASES.map((words, phase) => ({ words, sign: swatch(theme.phases[phase]) }))),
     ...(lanes.clocks.length > 0 ? [delayed] : []),
-    ...(lanes.clocks.length > 0 && !dense ? [{ word: 'a test here is still held', sign: dot }] : []),
-    ...(trace.refused !== null ? [{ word: 'not read any more', sign: swatch(`url(#${hatch})`) }] : []),
+    ...(lanes.clocks.length > 0 && !dense ? [{ words: ['a test here is still held', 'here still held'], sign: dot }] : []),
+    ...(trace.refused !== null ? [{ words: ['not read any more', 'not read'], sign: swatch(`url(#${hatch})`) }] : []),
   ];
 }
 
+/** What a sign takes, with the gap behind it. */
+const SIGN = 26;
+
 /**
+ * In one row if the words in full, or in short, make it so; else in full in several.
  * @param {View} view @param {number} y
  * @returns {Piece}
  */
@@ -81,13 +87,17 @@ export function legend(view, y) {
   const { options, sizes, theme, width } = view;
   if (options.legend === false) return { markup: null, height: 0 };
   const [side, gap] = sizes.narrow ? [12, 12] : [24, 20];
+  const entries = legendEntries(view);
+  const wide = (/** @type {string} */ word) => SIGN + widthOf(word, sizes.small);
+  const inOneRow = (/** @type {number} */ k) => entries.reduce((sum, { words }) => sum + wide(words[k]) + gap, 2 * side - gap) <= width;
+  const which = [0, 1].find(inOneRow) ?? 0;
   let [x, row] = [side, 0];
-  const placed = legendEntries(view).map(({ word, sign }) => {
-    const wide = 26 + widthOf(word, sizes.small);
-    if (x + wide > width - side && x > side) [x, row] = [side, row + 1];
+  const placed = entries.map(({ words, sign }) => {
+    const word = words[which];
+    if (x + wide(word) > width - side && x > side) [x, row] = [side, row + 1];
     const [left, base] = [x, y + 14 + row * 22];
-    x += wide + gap;
-    return [sign(left, base), text(left + 26, base, word, { size: sizes.small, fill: theme.quiet })];
+    x += wide(word) + gap;
+    return [sign(left, base), text(left + SIGN, base, word, { size: sizes.small, fill: theme.quiet })];
   });
   return { markup: group({ class: 'legend' }, placed), height: 14 + row * 22 + 12 };
 }

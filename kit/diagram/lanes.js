@@ -7,6 +7,7 @@
 /**
  * @typedef {Object} Sizes
  * @property {boolean} narrow
+ * @property {boolean} low      the lanes are closer together
  * @property {number} left      where time begins
  * @property {number} gap       between a lane's name and its beginning
  * @property {number} right     how much is left free at the right edge
@@ -18,14 +19,14 @@
  */
 
 /**
- * @param {number} width
+ * @param {number} width @param {boolean} [low]
  * @returns {Sizes}
  */
-export function sizesFor(width) {
+export function sizesFor(width, low = false) {
   const narrow = width < 700;
   return narrow
-    ? { narrow, left: 64, gap: 16, right: 14, word: 11.5, text: 12, small: 11, title: 16, ring: 13 }
-    : { narrow, left: 140, gap: 20, right: 34, word: 16, text: 14, small: 12.5, title: 21, ring: 17 };
+    ? { narrow, low, left: 64, gap: 16, right: 14, word: 11.5, text: 12, small: 11, title: 16, ring: 13 }
+    : { narrow, low, left: 140, gap: 20, right: 34, word: 16, text: 14, small: 12.5, title: 21, ring: 17 };
 }
 
 /**
@@ -45,24 +46,33 @@ export function sizesFor(width) {
  * @property {number} bottom
  */
 
+/** Gaps above lanes, and heights. `rows` are the middles of the rows in the band; `clock` is from one clock to the next. */
+const WIDE = { axis: 18, input: [18, 40], band: [28, 164], rows: [24, 62, 108, 144], state: [24, 38], output: 26, clocks: 16, clock: [42, 32] };
+const LOW = { axis: 16, input: [16, 36], band: [24, 146], rows: [22, 56, 98, 130], state: [20, 34], output: 24, clocks: 12, clock: [38, 30] };
+const NARROW = { axis: 14, input: [16, 32], band: [24, 134], rows: [18, 50, 88, 118], state: [18, 30], output: 22, clocks: 12, clock: [34, 24] };
+
+/** A narrow picture has the timers' names above their bars. */
+const NAME_ABOVE = 10;
+
 /**
  * @param {Table} table @param {Sizes} sizes
  * @param {number} head    the height of what stands above the axis
  * @returns {Lanes}
  */
-export function lanesFor(table, sizes, head) {
-  const { narrow } = sizes;
-  const axis = head + (narrow ? 14 : 18);
-  const input = { y: axis + (narrow ? 16 : 18), height: narrow ? 32 : 40 };
-  const band = { y: input.y + input.height + (narrow ? 24 : 28), height: narrow ? 134 : 164 };
-  const rows = narrow ? [18, 50, 88, 118] : [24, 62, 108, 144];
-  const state = { y: band.y + band.height + (narrow ? 18 : 24), height: narrow ? 30 : 38 };
-  const output = { y: state.y + state.height, height: narrow ? 22 : 26 };
-  const step = narrow ? (table.kind === 'timers' ? 44 : 34) : 42;
-  const first = output.y + output.height + (narrow ? 12 : 16);
-  const clocks = Array.from({ length: clockRows(table) }, (_, k) => ({ y: first + k * step + (narrow ? step - 34 : 0), height: narrow ? 24 : 32 }));
+export function lanesFor(table, { narrow, low }, head) {
+  const m = narrow ? NARROW : low ? LOW : WIDE;
+  const lane = (/** @type {number} */ above, /** @type {number[]} */ [gap, height]) => ({ y: above + gap, height });
+  const axis = head + m.axis;
+  const input = lane(axis, m.input);
+  const band = lane(input.y + input.height, m.band);
+  const state = lane(band.y + band.height, m.state);
+  const output = lane(state.y + state.height, [0, m.output]);
+  const name = narrow && table.kind === 'timers' ? NAME_ABOVE : 0;
+  const step = m.clock[0] + name;
+  const first = output.y + output.height + m.clocks;
+  const clocks = Array.from({ length: clockRows(table) }, (_, k) => ({ y: first + k * step + name, height: m.clock[1] }));
   const bottom = clocks.length === 0 ? output.y + output.height + 8 : first + clocks.length * step + 2;
-  const [poll, test, tick, cycle] = rows.map((row) => band.y + row);
+  const [poll, test, tick, cycle] = m.rows.map((row) => band.y + row);
   return { top: input.y - 8, axis, input, band, poll, test, tick, cycle, state, output, clocks, bottom };
 }
 

@@ -80,7 +80,8 @@ function testChoices(view, step) {
 }
 
 /**
- * To the left of a tick its state is another still, so its words stand to the right alone.
+ * To the left of a tick its state is another still, so its words stand to the right. Only where it leads may stand to the left, for want
+ * of room: the arrow says that it comes.
  * @param {View} view @param {Step} step
  */
 function tickChoices(view, step) {
@@ -88,8 +89,8 @@ function tickChoices(view, step) {
   const moves = step.before?.state !== step.after?.state;
   const name = nameOf(trace.names.states, step.record.value);
   const style = { y: yOf(view, step) + sizes.text * 0.36, size: sizes.text, fill: moves ? theme.ink : theme.quiet, bold: moves };
-  const texts = moves ? [`→ ${name}`] : [`stays ${name}`, 'stays'];
-  return texts.map((text) => sides(view, step, 8, [{ ...style, text }])[0]);
+  if (moves) return sides(view, step, 8, [{ ...style, text: `→ ${name}` }]);
+  return [`stays ${name}`, 'stays'].map((text) => sides(view, step, 8, [{ ...style, text }])[0]);
 }
 
 /**

@@ -21,6 +21,7 @@ import { THEMES } from '../theme.js';
  * @property {string} [meaning]            what the refusal's number means, in a few words
  * @property {boolean} [head]              title and answer above the lanes; yes if it is not said
  * @property {boolean} [legend]            yes if it is not said
+ * @property {boolean} [low]               the lanes are closer together, for a page that has more to show
  * @property {'light'|'dark'} [theme]
  * @property {(step: Step) => string} [narrate]   a sentence for an accepted record, which is shown when one points at it
  * @property {string} [id]                 begins the names of the picture's patterns, where a page has several pictures
@@ -59,7 +60,7 @@ const FAR_ROOM = 120;
  */
 export function viewOf(trace, options) {
   const width = Math.max(240, Math.round(options.width ?? 1280));
-  const sizes = sizesFor(width);
+  const sizes = sizesFor(width, options.low);
   const plot = width - sizes.left - sizes.right;
   const room = { cycles: Math.floor(plot / CYCLE_ROOM), records: MOST_MARKS * 2 / 3, words: (sizes.narrow ? 84 : 110) / plot };
   const stretch = stretchOf(trace, options, room);

@@ -139,11 +139,38 @@ test('no words overlap, and none leaves the picture', () => {
   const far = wrong(at('poll', 10), { time: 2000000000 });
   for (const { title, trace } of [...CASES, { title: 'Far away', trace: far }]) {
     for (const width of WIDTHS) {
-      for (const options of [{}, { selected: 5, step: true }, { head: false, legend: false }]) {
+      for (const options of [{}, { selected: 5, step: true }, { head: false, low: true }]) {
         const said = { sentences: ['A sentence, which is a little longer than the others are.'], slip: 'A slip.' };
         wordsAreApart(look(trace, { title, width, ...said, ...options }), width, title);
       }
     }
+  }
+});
+
+/** The words at a record. */
+const wordsAt = (root, number) => ofClass(root, 'record').filter(({ attributes }) => attributes['data-record'] === String(number))
+  .flatMap(all).filter(({ name }) => name === 'text').map(({ text }) => text);
+
+test('where a tick leads is said before that another stays', () => {
+  for (let width = 760; width <= 1280; width += 20) {
+    for (const low of [false, true]) {
+      const root = look(run, { width, low });
+      assert.deepEqual([wordsAt(root, at('tick', 3)), wordsAt(root, at('tick', 11))], [['→ busy'], ['→ idle']], `${width}`);
+    }
+  }
+  const quarry = traceOfSample('quarry');
+  const tick = quarry.steps.find(({ record }) => record.kind === 'tick' && record.time === 8);
+  assert.deepEqual(wordsAt(look(quarry, { width: 820 }), tick.number), ['→ idle']);
+});
+
+test('the legend has one row where short words can make it so, and never loses an entry', () => {
+  const rows = (root) => new Set(ofClass(root, 'legend').flatMap(all).filter(({ name }) => name === 'text').map(({ attributes }) => attributes.y));
+  const entries = (root) => ofClass(root, 'legend').flatMap(all).filter(({ name }) => name === 'text').length;
+  for (const trace of [run, traceOfSample('quarry'), traceOfSample('gas-burner')]) {
+    const wide = look(trace, { width: 1280 });
+    for (const width of [820, 900, 1280]) assert.equal(rows(look(trace, { width })).size, 1, `${width}`);
+    assert.equal(entries(look(trace, { width: 820 })), entries(wide));
+    assert.equal(entries(look(trace, { width: 390 })), entries(wide));
   }
 });
 
