@@ -84,8 +84,7 @@ const SIGN = 26;
  * @returns {Piece}
  */
 export function legend(view, y) {
-  const { options, sizes, theme, width } = view;
-  if (options.legend === false) return { markup: null, height: 0 };
+  const { sizes, theme, width } = view;
   const [side, gap] = sizes.narrow ? [12, 12] : [24, 20];
   const entries = legendEntries(view);
   const wide = (/** @type {string} */ word) => SIGN + widthOf(word, sizes.small);

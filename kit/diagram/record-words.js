@@ -3,6 +3,7 @@
 import { nameOf } from '../name-of.js';
 import { thousands } from '../names.js';
 import { left } from '../trace.js';
+import { cycleOf } from './cycles.js';
 import { xOf, yOf } from './view.js';
 
 /** @typedef {import('./view.js').View} View */
@@ -24,7 +25,20 @@ export function wordsOf(view, labels, drawn) {
   const rank = (/** @type {Step} */ step) =>
     (turning.has(step.number) ? 0 : 10) + ['test', 'tick', 'poll', 'change', 'end'].indexOf(step.record.kind);
   readable.sort((a, b) => rank(a) - rank(b));
-  return new Map(readable.map((step) => [step.number, labels.choose(choicesOf(view, step))]));
+  return new Map(readable.map((step) => [step.number, placed(view, labels, step)]));
+}
+
+/**
+ * Words to the left of a tick have the row of its cycle for themselves: behind `stays` they would read as one sentence.
+ * @param {View} view @param {Labels} labels @param {Step} step
+ */
+function placed(view, labels, step) {
+  const words = labels.choose(choicesOf(view, step));
+  if (step.record.kind === 'tick' && words[0]?.anchor === 'end') {
+    const { from, to } = cycleOf(view, step);
+    labels.block(from, words[0].y - words[0].size, to - from, words[0].size);
+  }
+  return words;
 }
 
 /**

@@ -20,7 +20,6 @@ import { THEMES } from '../theme.js';
  * @property {string|null} [slip]          the usual slip, set off from them
  * @property {string} [meaning]            what the refusal's number means, in a few words
  * @property {boolean} [head]              title and answer above the lanes; yes if it is not said
- * @property {boolean} [legend]            yes if it is not said
  * @property {boolean} [low]               the lanes are closer together, for a page that has more to show
  * @property {'light'|'dark'} [theme]
  * @property {(step: Step) => string} [narrate]   a sentence for an accepted record, which is shown when one points at it

@@ -4,6 +4,7 @@ import { automaton } from '../automaton.js';
 import { diagram } from '../diagram.js';
 import { narrate } from '../explain.js';
 import { counted, thousands } from '../names.js';
+import { keepRoom } from './answer-room.js';
 import { byId, fill, show } from './dom.js';
 import { machineAt, showMachine } from './machine.js';
 import { showTools } from './toolbox.js';
@@ -122,7 +123,7 @@ function drawDiagram(page, trace) {
   const { title, step: { selected, stepping } } = page;
   const says = (/** @type {Step} */ step) => narrate(trace, step);
   const { scale, ...look } = diagramLook(page);
-  const options = { head: false, legend: !stepping, selected, step: stepping, narrate: says, id: 'page', title, ...look };
+  const options = { head: false, low: true, selected, step: stepping, narrate: says, id: 'page', title, ...look };
   show(byId('diagram'), diagram(trace, options), scale);
 }
 
@@ -156,5 +157,6 @@ export function redraw(page) {
     byId(look).setAttribute('aria-pressed', String(page[look]));
   }
   for (const pane of PANES) page.editors[pane].draw();
+  keepRoom(page);
   draw(page);
 }

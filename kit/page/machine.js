@@ -2,6 +2,7 @@
 
 import { narrate } from '../explain.js';
 import { nameOf } from '../name-of.js';
+import { recordLine } from '../notation.js';
 import { thousands } from '../names.js';
 import { members } from '../sets.js';
 import { clocks } from '../trace.js';
@@ -24,7 +25,7 @@ function clockCells(trace, m) {
   return here.map(({ timer, length, from, delays }) => {
     const what = timer === null ? 'hold' : `timer ${nameOf(names.timers, timer)}`;
     const delayed = members(delays).map((input) => nameOf(names.inputs, input)).join(', ') || 'nothing';
-    return [what, `${thousands(length)} from ${thousands(from)}: over when ${thousands(from + length)} is passed; delays ${delayed}`];
+    return [`${what}, delays ${delayed}`, `${thousands(length)} from ${thousands(from)}: over when ${thousands(from + length)} is passed`];
   });
 }
 
@@ -42,7 +43,7 @@ export function machineCells(trace, m) {
     ['input at the sensor', nameOf(names.inputs, m.present)],
     ['last change', thousands(m.change)],
     ['polled input', m.phase === 0 ? 'none yet' : `${nameOf(names.inputs, m.polled)}, at ${thousands(m.polledAt)}`],
-    ['cycle', `from ${thousands(m.cycleStart)}, to ${thousands(m.cycleStart + table.cycle)} at most`],
+    ['cycle', `${thousands(m.cycleStart)} to at most ${thousands(m.cycleStart + table.cycle)}`],
     ['controller', PHASES[m.phase]],
     ...clockCells(trace, m),
   ];
@@ -66,6 +67,16 @@ export function sayStep(trace, step) {
 }
 
 /**
+ * A record that is looked at: its line, and a sentence about it. Null for the refused one.
+ * @param {Trace} trace @param {Step} step
+ * @returns {{record: string, says: string}|null}
+ */
+export function saidAt(trace, step) {
+  const says = sayStep(trace, step);
+  return says === null ? null : { record: `${recordLine(step.record, trace.names).trim().replace(/\s+/g, ' ')}:`, says };
+}
+
+/**
  * @param {Element} room @param {Trace} trace @param {Step} step
  */
 export function showMachine(room, trace, step) {
@@ -82,7 +93,7 @@ export function showMachine(room, trace, step) {
  * @param {string} name @param {string} value @param {boolean} changed
  */
 function cell(name, value, changed) {
-  const wide = /^(hold|timer)/.test(name);
+  const wide = /^(hold|timer|controller)/.test(name);
   const words = make('dd', {}, value, changed && make('span', { class: 'unseen' }, ' (changed)'));
   return make('div', { class: `${changed ? 'changed' : ''} ${wide ? 'wide' : ''}` }, make('dt', {}, name), words);
 }

@@ -1,14 +1,14 @@
 /** The page itself: its three texts, the library's answer about them, and which record is looked at. */
 
-import { recordLine } from '../notation.js';
 import { carry } from './address.js';
 import { sayAnswer, showAnswer, subjectOf } from './answer.js';
+import { keepRoom } from './answer-room.js';
 import { byId, fill } from './dom.js';
 import { draw, lookOf } from './drawing.js';
 import { Editor } from './editor.js';
 import { Held } from './held.js';
 import { tooLong } from './limits.js';
-import { sayStep } from './machine.js';
+import { saidAt } from './machine.js';
 import { markTexts, showBadges, showFoot } from './marks.js';
 import { ReactionPanel } from './reaction.js';
 import { lookAtLine } from './stepping.js';
@@ -180,6 +180,7 @@ export class Page {
     const said = sayAnswer(answers, subject);
     this.#held.hold({ answers, subject, said });
     this.say();
+    keepRoom(this);
     const spoken = `${said.about}: ${said.line}. ${said.sentences[0] ?? said.mistakes[0]?.says ?? ''}`;
     this.later('spoken', SPEAK_LATER, () => fill(byId('spoken'), spoken));
     showBadges(answers);
@@ -212,10 +213,9 @@ export class Page {
   say() {
     const { subject, said, step: { selected } } = this;
     const step = subject && selected !== null ? subject.trace.steps[selected] : null;
-    const says = step && subject ? sayStep(subject.trace, step) : null;
-    fill(byId('step-short'), step ? says ?? said.sentences.join(' ') : '');
-    const record = step && subject ? recordLine(step.record, subject.trace.names).trim().replace(/\s+/g, ' ') : '';
-    showAnswer(byId('answer'), said, (spot) => this.go(spot), says === null ? null : { record: `${record}:`, says });
+    const about = step && subject ? saidAt(subject.trace, step) : null;
+    fill(byId('step-short'), step ? about?.says ?? said.sentences.join(' ') : '');
+    showAnswer(byId('answer'), said, (spot) => this.go(spot), about);
   }
 
   /** @param {string} says */

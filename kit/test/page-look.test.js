@@ -30,6 +30,67 @@ test('on a projector the answer, the text, the diagram, the machine and the auto
   }
 });
 
+/** In the page: goes from the whole run through all records, and says where the diagram stands at each, and whether it has its legend. */
+const STEPPING = `(() => {
+  const look = () => {
+    const { left, top, width, height } = document.getElementById('diagram').getBoundingClientRect();
+    return { left, top: top + scrollY, width, height, legend: document.querySelectorAll('#diagram .legend').length };
+  };
+  const seen = [look()];
+  for (document.getElementById('first').click(); !document.getElementById('next').disabled; document.getElementById('next').click()) seen.push(look());
+  return [...seen, look()];
+})()`;
+
+test('the diagram stands still while one steps, and keeps its legend', async (t) => {
+  for (const size of [{ width: 1920, height: 1080 }, PROJECTOR, PHONES[0]]) {
+    const tab = await open(t, 'example=changed-verdict', size);
+    for (const name of ['changed-verdict', 'quarry', 'classroom', 'gas-burner']) {
+      await choose(tab, name);
+      const seen = await tab.value(STEPPING);
+      assert.ok(seen.length > 15, name);
+      for (const side of ['left', 'top', 'width', 'height']) {
+        const places = seen.map((each) => each[side]);
+        assert.ok(Math.max(...places) - Math.min(...places) <= 1, `${name}, ${size.width}, ${side}: ${places.join()}`);
+      }
+      assert.ok(seen.every(({ legend }) => legend === 1), `${name}, ${size.width}`);
+    }
+  }
+});
+
+/** In the page: how much of the text is cut at its side, and how far the last line's number is from the end of the text. */
+const WRAPPED = `(() => {
+  const field = document.querySelector('.editor:not([hidden]) textarea');
+  field.scrollTop = field.scrollHeight;
+  field.dispatchEvent(new Event('scroll'));
+  const numbers = [...document.querySelectorAll('.editor:not([hidden]) .ordinal')];
+  const { paddingBottom, lineHeight } = getComputedStyle(field);
+  const foot = field.getBoundingClientRect().top + field.clientTop + field.scrollHeight - field.scrollTop - parseFloat(paddingBottom);
+  return { cut: field.scrollWidth - field.clientWidth, last: numbers.at(-1).textContent, lines: field.value.split('\\n').length,
+    off: foot - parseFloat(lineHeight) - numbers.at(-1).getBoundingClientRect().top };
+})()`;
+
+test('comments can be read to their end, and each number stands at its line', async (t) => {
+  for (const size of [PROJECTOR, PHONES[0]]) {
+    const tab = await open(t, 'example=changed-verdict', size);
+    for (const name of ['classroom', 'quarry', 'gas-burner']) {
+      await choose(tab, name);
+      for (const pane of ['table', 'journal']) {
+        await tab.click(`#tab-${pane}`);
+        const { cut, off, last, lines } = await tab.value(WRAPPED);
+        assert.deepEqual([cut, last], [0, String(lines)], `${name}, ${pane}, ${size.width}`);
+        assert.ok(Math.abs(off) <= 1, `${name}, ${pane}, ${size.width}: ${off}`);
+      }
+    }
+  }
+});
+
+test('the margin has the line and the byte that the answer names', async (t) => {
+  const tab = await open(t, 'example=quarry', PROJECTOR);
+  const named = /refused 28 at (\d+)(line (\d+))/.exec(await tab.text('#answer .line'));
+  assert.equal(await tab.text('#pane-journal .number.refused'), named[1]);
+  assert.equal(`line ${await tab.text('#pane-journal .ordinal.refused')}`, named[2]);
+});
+
 test('the line that is wrong is in sight when an example opens', async (t) => {
   for (const size of [PROJECTOR, PHONES[0]]) {
     const tab = await open(t, 'example=classroom', size);

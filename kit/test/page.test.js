@@ -239,8 +239,47 @@ test('the panel says in words why no reaction time is given', async (t) => {
     /^refused 10 at 2The states do not hold together .* from 'busy' input 'no_train' leads to 'idle', which is not among them\. Add 'idle'/);
   assert.match(await askReaction(tab, { states: 3, inputs: 1, moves: 33 }), /^refused 32 at 0.*33 moves were asked for; at most 32 are calculated/);
   assert.deepEqual(await litPath(tab), { states: [], edges: [] });
-  await choose(tab, 'gas-burner');
+  const [none, most] = [/0 to 32/, /^refused 32 at 0/];
+  for (const [moves, says] of [['-1', none], ['1.5', none], ['', none], ['1e400', none], ['33', most], ['4294967297', most]]) {
+    assert.match(await askReaction(tab, { states: 3, inputs: 1, moves }), says, moves);
+    assert.deepEqual(await litPath(tab), { states: [], edges: [] }, moves);
+  }
+  assert.match(await askReaction(tab, { states: 3, inputs: 1, moves: 0 }), /^at most 0/);
+});
+
+test('a table with timers has the reason in the place of the form', async (t) => {
+  const tab = await open(t, 'example=gas-burner');
+  const form = () => tab.value("[...document.querySelectorAll('#reaction-panel :is(fieldset, input)')].filter((each) => each.checkVisibility()).length");
   assert.match(await tab.text('#reaction-answer'), /^refused 14 at 0This table has timers\./);
+  assert.equal(await form(), 0);
+  await choose(tab, 'classroom');
+  assert.ok(await form() > 4);
+  assert.match(await tab.text('#reaction-answer'), /^at most 14/);
+});
+
+test('the example that promises three moves asks for three; the next one asks for one', async (t) => {
+  const tab = await open(t, 'example=mixer');
+  const asked = () => tab.value("document.getElementById('reaction-moves').value");
+  assert.equal(await asked(), '3');
+  assert.match(await tab.text('#reaction-answer'), new RegExp(`^at most ${library.reactionMoves(tableOf('mixer'), 31, 1, 3).time}until: idle`));
+  await choose(tab, 'classroom');
+  assert.equal(await asked(), '1');
+  await choose(tab, 'mixer');
+  assert.equal(await asked(), '3');
+});
+
+/** In the page: where the states of a picture stand in it. */
+const PLACES = (room) => `[...document.querySelectorAll('${room} .state')].map((state) => {
+  const { cx, cy } = state.querySelector('circle'); return [state.dataset.state, cx.baseVal.value, cy.baseVal.value].join(' '); })`;
+
+test('the automaton has one layout on the page', async (t) => {
+  const tab = await open(t, 'example=classroom');
+  for (const name of ['classroom', 'watchdog', 'mixer', 'stutter-filter']) {
+    await choose(tab, name);
+    const places = await tab.value(PLACES('#automaton'));
+    assert.ok(places.length > 1, name);
+    assert.deepEqual(await tab.value(PLACES('#reaction-picture:not([hidden])')), places, name);
+  }
 });
 
 test('the link carries the texts, and a broken one does no harm', async (t) => {

@@ -147,20 +147,23 @@ test('no words overlap, and none leaves the picture', () => {
   }
 });
 
-/** The words at a record. */
-const wordsAt = (root, number) => ofClass(root, 'record').filter(({ attributes }) => attributes['data-record'] === String(number))
-  .flatMap(all).filter(({ name }) => name === 'text').map(({ text }) => text);
+/** The words at a tick, and on which side of it they stand. */
+function atTick(trace, root, time) {
+  const { number } = trace.steps.find(({ record }) => record.kind === 'tick' && record.time === time);
+  const [mark] = ofClass(root, 'record').filter(({ attributes }) => attributes['data-record'] === String(number));
+  return all(mark).filter(({ name }) => name === 'text').map(({ text, attributes }) => `${text} ${attributes['text-anchor'] ?? 'start'}`).join();
+}
 
 test('where a tick leads is said before that another stays', () => {
   for (let width = 760; width <= 1280; width += 20) {
     for (const low of [false, true]) {
       const root = look(run, { width, low });
-      assert.deepEqual([wordsAt(root, at('tick', 3)), wordsAt(root, at('tick', 11))], [['→ busy'], ['→ idle']], `${width}`);
+      assert.equal(atTick(run, root, 3), '→ busy start', `${width}`);
+      assert.match(atTick(run, root, 11), /^→ idle (start|end)$/, `${width}`);
+      if (atTick(run, root, 11) === '→ idle end') assert.equal(atTick(run, root, 9), '', `${width}: stays → idle`);
     }
   }
-  const quarry = traceOfSample('quarry');
-  const tick = quarry.steps.find(({ record }) => record.kind === 'tick' && record.time === 8);
-  assert.deepEqual(wordsAt(look(quarry, { width: 820 }), tick.number), ['→ idle']);
+  assert.equal(atTick(traceOfSample('quarry'), look(traceOfSample('quarry'), { width: 820 }), 8), '→ idle end');
 });
 
 test('the legend has one row where short words can make it so, and never loses an entry', () => {
