@@ -6,6 +6,7 @@
  * @property {string} title
  * @property {string} says       what it shows, in a sentence
  * @property {'runs'|'errors of students'|'forms'|'tables'} group
+ * @property {number} [moves]    over so many its reaction time is asked for; 1 if it is not said
  */
 
 /** @type {Example[]} */
@@ -42,7 +43,7 @@ export const EXAMPLES = [
     says: 'The supply was lost in the middle of a record. What is sound can be salvaged.' },
   { name: 'stutter-filter', title: 'The stutter filter', group: 'tables',
     says: 'A table to ask for reaction times: how long until "no train" is reported for sure?' },
-  { name: 'mixer', title: 'Back to idle', group: 'tables',
+  { name: 'mixer', title: 'Back to idle', group: 'tables', moves: 3,
     says: 'A mixer is stopped. How long until it is idle again? The longest way back has three moves.' },
   { name: 'old-table', title: 'An old table', group: 'tables',
     says: 'It delays an input in a state without a hold, and is refused; it can be converted.' },

@@ -1,7 +1,7 @@
 /** The answer keeps its room, so that nothing below it moves while one steps, whatever is said of a record. */
 
 import { showAnswer } from './answer.js';
-import { byId, make } from './dom.js';
+import { byId, inTwoColumns, make } from './dom.js';
 import { saidAt } from './machine.js';
 
 /** @typedef {import('./page.js').Page} Page */
@@ -27,7 +27,7 @@ export function keepRoom({ subject, said }) {
   const room = byId('answer');
   room.style.minHeight = '';
   if (!subject) return;
-  const boxes = [null, ...longestOf(subject)].map((step) => {
+  const boxes = [null, ...(inTwoColumns() ? longestOf(subject) : [])].map((step) => {
     const box = make('div');
     showAnswer(box, said, () => {}, step);
     return box;

@@ -36,6 +36,9 @@ export function closeMenu(menu) {
   menu.open = false;
 }
 
+/** Texts on one side, answer and pictures on the other; else all stands below each other, and the bar says what a record says. */
+export const inTwoColumns = () => matchMedia('(min-width: 901px)').matches;
+
 /**
  * Puts these children in the place of all others.
  * @param {Element} element @param {...(Child|Child[])} children

@@ -5,7 +5,7 @@ import { diagram } from '../diagram.js';
 import { narrate } from '../explain.js';
 import { counted, thousands } from '../names.js';
 import { keepRoom } from './answer-room.js';
-import { byId, fill, show } from './dom.js';
+import { byId, fill, inTwoColumns, show } from './dom.js';
 import { machineAt, showMachine } from './machine.js';
 import { showTools } from './toolbox.js';
 import { PANES } from './workspace.js';
@@ -26,7 +26,7 @@ const LINES_LEAST = 5;
  * @param {Page} page @param {HTMLElement} room
  * @returns {{width: number, theme: 'light'|'dark', scale: number}}
  */
-export function lookOf({ large, dark }, room) {
+function lookOf({ large, dark }, room) {
   const style = getComputedStyle(room);
   const width = room.clientWidth - parseFloat(style.paddingLeft) - parseFloat(style.paddingRight);
   const scale = large ? LARGER : 1;
@@ -49,11 +49,11 @@ export function draw(page) {
     for (const button of document.querySelectorAll('.stepping button')) button.toggleAttribute('disabled', true);
     return;
   }
-  page.reaction.update(answers);
   for (const room of document.querySelectorAll('#diagram, #machine, .stepping')) room.toggleAttribute('hidden', !subject);
   placeAutomaton(page);
   byId('pictures').hidden = !subject && byId('automaton-below').hidden;
   byId('reaction-panel').hidden = !answers.decoded;
+  page.reaction.update(answers);
   drawStep(page);
 }
 
@@ -75,7 +75,7 @@ function placeAutomaton(page) {
 
 /** @param {Page} page */
 function fitsBeside({ editors, pane }) {
-  if (!matchMedia('(min-width: 901px)').matches) return false;
+  if (!inTwoColumns()) return false;
   const { scrollWidth, clientWidth } = byId('automaton');
   return scrollWidth <= clientWidth && editors[pane].linesInSight() >= LINES_LEAST;
 }
@@ -109,7 +109,24 @@ export function drawStep(page) {
 /** @param {Page} page @param {Table} table */
 function drawAutomaton(page, table) {
   const { scale, ...look } = lookOf(page, byId('automaton'));
-  show(byId('automaton'), automaton(table, { lit: litAt(shownStep(page)), ...look }), scale);
+  const lit = page.subject ? litAt(shownStep(page)) : { path: page.reaction.path };
+  show(byId('automaton'), automaton(table, { lit, ...look }), scale);
+}
+
+/**
+ * The longest way of a reaction: in the automaton itself, or, where that shows the machine of a journal, in a picture with the same layout.
+ * @param {Page} page
+ */
+export function drawWay(page) {
+  const { subject, answers: { decoded }, reaction: { path } } = page;
+  const room = byId('reaction-picture');
+  room.hidden = !subject || path.length === 0;
+  if (!decoded) return;
+  if (!subject) drawAutomaton(page, decoded);
+  else if (path.length > 0) {
+    const { scale, ...look } = lookOf(page, byId('automaton'));
+    show(room, automaton(decoded, { title: 'The longest way', lit: { path }, ...look }), scale);
+  }
 }
 
 /** @param {Page} page */
@@ -157,6 +174,7 @@ export function redraw(page) {
     byId(look).setAttribute('aria-pressed', String(page[look]));
   }
   for (const pane of PANES) page.editors[pane].draw();
+  page.say();
   keepRoom(page);
   draw(page);
 }

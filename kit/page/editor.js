@@ -1,6 +1,10 @@
-/** A text field with a margin of numbers and with marked lines. Only what is in view is drawn, so that long journals stay quick. */
+/**
+ * A text field with a margin of numbers and with marked lines. Lines that are too long go on in the next row. Only what is in view is
+ * drawn, so that long journals stay quick.
+ */
 
 import { make } from './dom.js';
+import { Wrapping } from './wrapping.js';
 
 /** @typedef {{line: number, column?: number, width?: number, look: 'refused'|'mistake'|'current'}} Mark */
 
@@ -12,15 +16,18 @@ export class Editor {
     this.margin = make('div', { class: 'margin', 'aria-hidden': 'true' });
     this.marked = make('div', { class: 'marks', 'aria-hidden': 'true' });
     this.field = make('textarea', {
-      'aria-label': label, 'aria-describedby': describedBy, spellcheck: 'false', autocapitalize: 'off', autocomplete: 'off', wrap: 'off', dir: 'ltr',
+      'aria-label': label, 'aria-describedby': describedBy, spellcheck: 'false', autocapitalize: 'off', autocomplete: 'off', dir: 'ltr',
     });
     room.append(this.margin, make('div', { class: 'field' }, this.marked, this.field));
+    this.wrapping = new Wrapping(this.field);
     /** @type {Mark[]} */
     this.marks = [];
     /** @type {Map<number, string>|null} */
     this.numbers = null;
     /** @type {string[]} */
     this.lines = [''];
+    /** Before which row each line begins. */
+    this.starts = [0, 1];
     this.field.addEventListener('input', () => this.#changed(onInput));
     this.field.addEventListener('scroll', () => this.draw());
     for (const event of ['click', 'keyup']) this.field.addEventListener(event, () => onCaret(this.caretLine()));
@@ -51,11 +58,12 @@ export class Editor {
   }
 
   /**
-   * @param {Mark[]} marks @param {Map<number, string>|null} numbers  what stands in the margin; line numbers if it is null
+   * @param {Mark[]} marks @param {Map<number, string>|null} numbers  what stands in the margin beside the numbers of the lines
    */
   decorate(marks, numbers) {
     this.marks = marks;
     this.numbers = numbers;
+    this.margin.classList.toggle('double', numbers !== null);
     this.draw();
   }
 
@@ -68,9 +76,9 @@ export class Editor {
 
   /** @param {number} line */
   reveal(line) {
-    const { height, shift } = this.#measure();
-    const [top, room] = [shift + (line - 1) * height, this.field.clientHeight];
-    if (top < this.field.scrollTop + height || top + 2 * height > this.field.scrollTop + room) {
+    const { height, top: topOf } = this.#measure();
+    const [top, below, room] = [topOf(line), topOf(line + 1) + height, this.field.clientHeight];
+    if (top < this.field.scrollTop + height || below > this.field.scrollTop + room) {
       this.field.scrollTop = Math.max(0, top - room / 2);
     }
     this.draw();
@@ -92,50 +100,53 @@ export class Editor {
     return (this.field.clientHeight - shift) / height;
   }
 
+  /** The height of a row, what stands above the first one, and where a line begins. */
   #measure() {
     const style = getComputedStyle(this.field);
-    return { height: parseFloat(style.lineHeight) || 20, shift: parseFloat(style.paddingTop) || 0 };
+    const [height, shift] = [parseFloat(style.lineHeight) || 20, parseFloat(style.paddingTop) || 0];
+    if (this.field.clientWidth > 0) this.starts = this.wrapping.starts(this.lines);
+    return { height, shift, top: (/** @type {number} */ line) => shift + (this.starts[line - 1] ?? line - 1) * height };
   }
 
   draw() {
-    const { height, shift } = this.#measure();
-    const { scrollTop, scrollLeft, clientHeight } = this.field;
+    const { height, top } = this.#measure();
+    const { scrollTop, clientHeight } = this.field;
     if (clientHeight === 0) return;
-    const first = Math.max(1, Math.floor((scrollTop - shift) / height));
-    const last = Math.min(this.lines.length, first + Math.ceil(clientHeight / height) + 2);
-    const top = (/** @type {number} */ line) => `${shift + (line - 1) * height - scrollTop}px`;
-    const numbers = [];
-    for (let line = first; line <= last; line++) numbers.push(this.#number(line, top(line)));
-    this.margin.replaceChildren(...numbers);
-    const shown = this.marks.filter(({ line }) => line >= first && line <= last);
-    this.marked.replaceChildren(...shown.map((mark) => this.#band(mark, top(mark.line), scrollLeft)));
+    const isInView = (/** @type {number} */ line) => top(line + 1) >= scrollTop && top(line) <= scrollTop + clientHeight;
+    const shown = this.lines.map((_, k) => k + 1).filter(isInView);
+    const place = (/** @type {any} */ element, /** @type {number} */ line) => {
+      element.style.top = `${top(line) - scrollTop}px`;
+      element.style.height = `${(this.starts[line] - this.starts[line - 1]) * height}px`;
+      return element;
+    };
+    this.margin.replaceChildren(...shown.flatMap((line) => this.#numbers(line).map((number) => place(number, line))));
+    const marks = this.marks.filter(({ line }) => line <= this.lines.length && isInView(line));
+    this.marked.replaceChildren(...marks.map((mark) => place(this.#band(mark), mark.line)));
   }
 
-  /** @param {number} line @param {string} top */
-  #number(line, top) {
+  /**
+   * The line's own number, and what else is known of it.
+   * @param {number} line
+   */
+  #numbers(line) {
     const looks = this.marks.filter((mark) => mark.line === line).map(({ look }) => look);
-    const number = make('span', { class: ['number', ...looks].join(' ') });
-    number.textContent = this.numbers ? this.numbers.get(line) ?? '' : String(line);
-    number.style.top = top;
-    return number;
+    const number = (/** @type {string} */ kind, /** @type {string} */ words) => make('span', { class: [kind, ...looks].join(' ') }, words);
+    return [number('ordinal', String(line)), ...(this.numbers ? [number('number', this.numbers.get(line) ?? '')] : [])];
   }
 
   /**
    * A band over the whole line, with the meant piece of text set off. The text itself stands in the field above; here it only keeps
    * the place.
-   * @param {Mark} mark @param {string} top @param {number} left
+   * @param {Mark} mark
    */
-  #band({ line, column, width, look }, top, left) {
+  #band({ line, column, width = 1, look }) {
     const band = make('div', { class: `band ${look}` });
-    band.style.top = top;
     if (column !== undefined) {
       const text = this.lines[line - 1] ?? '';
-      const words = make('span', { class: 'words' });
-      words.style.marginLeft = `${-left}px`;
-      const piece = make('span', { class: 'piece' });
-      piece.textContent = text.slice(column - 1, column - 1 + (width ?? 1)) || ' ';
-      words.append(text.slice(0, column - 1), piece);
-      band.append(words);
+      const piece = document.createElement('span');
+      piece.className = 'piece';
+      piece.textContent = text.slice(column - 1, column - 1 + width) || ' ';
+      band.append(text.slice(0, column - 1), piece, text.slice(column - 1 + width));
     }
     return band;
   }

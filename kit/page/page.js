@@ -3,8 +3,8 @@
 import { carry } from './address.js';
 import { sayAnswer, showAnswer, subjectOf } from './answer.js';
 import { keepRoom } from './answer-room.js';
-import { byId, fill } from './dom.js';
-import { draw, lookOf } from './drawing.js';
+import { byId, fill, inTwoColumns } from './dom.js';
+import { draw, drawWay } from './drawing.js';
 import { Editor } from './editor.js';
 import { Held } from './held.js';
 import { tooLong } from './limits.js';
@@ -59,9 +59,9 @@ export class Page {
     /** Files and links are opened one after the other. @type {Promise<void>} */
     this.opening = Promise.resolve();
     this.reaction = new ReactionPanel(library, {
-      states: byId('reaction-states'), inputs: byId('reaction-inputs'), moves: byId('reaction-moves'),
-      answer: byId('reaction-answer'), picture: byId('reaction-picture'),
-    }, () => lookOf(this, byId('reaction-picture')));
+      form: byId('reaction-form'), states: byId('reaction-states'), inputs: byId('reaction-inputs'), moves: byId('reaction-moves'),
+      answer: byId('reaction-answer'),
+    }, () => drawWay(this));
   }
 
   /** @param {Pane} pane */
@@ -215,7 +215,7 @@ export class Page {
     const step = subject && selected !== null ? subject.trace.steps[selected] : null;
     const about = step && subject ? saidAt(subject.trace, step) : null;
     fill(byId('step-short'), step ? about?.says ?? said.sentences.join(' ') : '');
-    showAnswer(byId('answer'), said, (spot) => this.go(spot), about);
+    showAnswer(byId('answer'), said, (spot) => this.go(spot), inTwoColumns() ? about : null);
   }
 
   /** @param {string} says */

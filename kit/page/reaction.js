@@ -1,18 +1,21 @@
 /** Reaction times by names. Every number is the library's. */
 
 import { refusalLine, sayPath, sayReaction } from '../answers.js';
-import { automaton } from '../automaton.js';
 import { explainReaction } from '../explain.js';
 import { nameOf } from '../name-of.js';
 import { thousands } from '../names.js';
 import { members, setOf, wholeSet } from '../sets.js';
-import { fill, make, show } from './dom.js';
+import { fill, make } from './dom.js';
 
 /** @typedef {import('../types.js').Library} Library */
 /** @typedef {import('../types.js').Table} Table */
 /** @typedef {import('./workspace.js').Answers} Answers */
 
 /** @typedef {{states: number, inputs: number, moves: number}} Question */
+/** @typedef {{number: number, line: string, beside: string[], sentences: string[], path: number[]}} Answer  `number` is the refusal's, or 0 */
+
+/** A table with timers has no reaction times, whatever is asked. */
+const HAS_TIMERS = 14;
 
 /**
  * Of one move the tight time too, which is not calculated for more.
@@ -28,37 +31,63 @@ function ask(library, bytes, { states, inputs, moves }) {
  * The library's answer: in a few words, in sentences, and the path to be lit.
  * @param {Library} library @param {{bytes: Uint8Array, table: Table}} given  a table that passes
  * @param {Question} question
- * @returns {{line: string, beside: string[], sentences: string[], path: number[]}}
+ * @returns {Answer}
  */
 export function answerReaction(library, { bytes, table }, question) {
   const said = ask(library, bytes, question);
-  if (!said.ok) return { line: refusalLine(said), beside: [], sentences: explainReaction(table, said, question).sentences, path: [] };
+  if (!said.ok) {
+    return { number: said.number, line: refusalLine(said), beside: [], sentences: explainReaction(table, said, question).sentences, path: [] };
+  }
   const { time, tight, target, path } = said;
   const until = members(target).map((state) => nameOf(table.names.states, state)).join(', ') || 'nowhere';
   return {
-    line: `at most ${thousands(time)}`,
+    number: 0, line: `at most ${thousands(time)}`,
     beside: [...(tight === undefined ? [] : [`tight ${thousands(tight)}, in whole units`]), `until: ${until}`],
     sentences: [...sayReaction(table, question.moves === 1 ? { ...question, moves: undefined } : question, said), sayPath(table, path)],
     path,
   };
 }
 
+/**
+ * What is said of a number of moves that the library cannot be asked for.
+ * @param {string} moves  as it was typed
+ * @returns {Answer}
+ */
+function notAsked(moves) {
+  const sentences = [moves === '' ? 'Say over how many moves: a whole number, 0 to 32.' : `${moves} is no number of moves. Say a whole number, 0 to 32.`];
+  return { number: 0, line: 'not asked', beside: [], sentences, path: [] };
+}
+
 /** The form for a reaction time, and its answer. */
 export class ReactionPanel {
   /**
-   * @param {Library} library @param {{states: Element, inputs: Element, moves: any, answer: Element, picture: HTMLElement}} rooms
-   * @param {() => {width: number, theme: 'light'|'dark', scale: number}} look
+   * @param {Library} library
+   * @param {{form: HTMLElement, states: Element, inputs: Element, moves: any, answer: Element}} rooms
+   * @param {() => void} answered  the longest way may be another now
    */
-  constructor(library, rooms, look) {
+  constructor(library, rooms, answered) {
     this.library = library;
     this.rooms = rooms;
-    this.look = look;
+    this.answered = answered;
     rooms.moves.addEventListener('input', () => this.answer());
     /** What the check boxes were made for. */
     this.made = '';
+    /** So many moves are asked for when they are made. */
+    this.opens = 1;
     /** @type {{bytes: Uint8Array, table: Table}|null} */
     this.given = null;
     this.sets = { states: 0, inputs: 0 };
+    /** @type {number[]} the longest way: states and inputs in turn */
+    this.path = [];
+  }
+
+  /**
+   * The form begins anew with what comes.
+   * @param {number} [moves]
+   */
+  begin(moves = 1) {
+    this.made = '';
+    this.opens = moves;
   }
 
   /** @param {Answers} answers */
@@ -74,7 +103,8 @@ export class ReactionPanel {
     if (key === this.made) return;
     this.made = key;
     this.sets = { states: wholeSet(counts.states), inputs: 1 };
-    this.rooms.moves.value = '1';
+    this.rooms.moves.value = String(this.opens);
+    this.opens = 1;
     this.#set('states', names.states);
     this.#set('inputs', names.inputs);
   }
@@ -95,30 +125,30 @@ export class ReactionPanel {
     }));
   }
 
-  /** Asks again: the table, a set or the number of moves changed. */
+  /** Asks again: the table, a set or the number of moves changed. Where no question has an answer, there is no form. */
   answer() {
-    const { answer: room, picture } = this.rooms;
-    if (!this.given) {
-      picture.hidden = true;
+    const { answer: room, form } = this.rooms;
+    const said = this.given && this.#ask(this.given);
+    form.hidden = said?.number === HAS_TIMERS;
+    this.path = said?.path ?? [];
+    if (said) {
+      const words = said.beside.map((each) => make('span', { class: 'meaning' }, each));
+      fill(room, make('p', { class: 'line' }, make('strong', {}, said.line), words), make('p', {}, said.sentences.join(' ')));
+    } else {
       fill(room, make('p', { class: 'hint' }, 'There is no table that passes.'));
-      return;
     }
-    const { line, beside, sentences, path } = answerReaction(this.library, this.given, { ...this.sets, moves: this.#moves() });
-    const words = beside.map((each) => make('span', { class: 'meaning' }, each));
-    fill(room, make('p', { class: 'line' }, make('strong', {}, line), words), make('p', {}, sentences.join(' ')));
-    picture.hidden = path.length === 0;
-    if (path.length > 0) this.#light(this.given.table, path);
+    this.answered();
   }
 
-  /** How many moves are asked for: one if nothing else is said. */
-  #moves() {
-    const { value } = this.rooms.moves;
-    return value === '' ? 1 : Math.max(0, Math.floor(Number(value)));
-  }
-
-  /** @param {Table} table @param {number[]} path */
-  #light(table, path) {
-    const { scale, ...look } = this.look();
-    show(this.rooms.picture, automaton(table, { title: 'The longest way', lit: { path }, ...look }), scale);
+  /**
+   * The library is asked for any whole number of moves: that 33 are too many is its answer.
+   * @param {{bytes: Uint8Array, table: Table}} given
+   */
+  #ask(given) {
+    const { moves: field } = this.rooms;
+    const moves = Number(field.value);
+    const whole = field.value !== '' && Number.isInteger(moves) && moves >= 0;
+    field.setAttribute('aria-invalid', String(!whole));
+    return whole ? answerReaction(this.library, given, { ...this.sets, moves }) : notAsked(field.value);
   }
 }

@@ -119,7 +119,7 @@ test('no word is smaller than 12 pixels', async (t) => {
     const tab = await open(t, 'example=changed-verdict', size);
     for (const name of ['changed-verdict', 'watchdog', 'gas-burner', 'stutter-filter', 'old-table']) {
       await choose(tab, name);
-      assert.ok(await tab.value(`${WORDS}.length`) > 40, name);
+      assert.ok(await tab.value(`${WORDS}.length`) > 30, name);
       assert.deepEqual(await tab.value(SMALL), [], `${name}, ${size.width}`);
     }
   }

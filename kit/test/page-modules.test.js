@@ -136,7 +136,7 @@ test('a question about members that are not there is answered in words', () => {
   const { reading, decoded } = ask(library, { ...noTexts(), ...splitText(sample('classroom')) });
   const answer = (states, inputs) => answerReaction(library, { bytes: reading.table.bytes, table: decoded }, { states, inputs, moves: 1 });
   assert.deepEqual(answer(7, 1), {
-    line: 'refused 9 at 0', beside: [], path: [], sentences: ['The set of states names number 2, but the 2 states are numbered 0 to 1.'],
+    number: 9, line: 'refused 9 at 0', beside: [], path: [], sentences: ['The set of states names number 2, but the 2 states are numbered 0 to 1.'],
   });
   assert.match(answer(3, 8).sentences[0], /^The set of inputs names number 3, but the 2 inputs are numbered 0 to 1\.$/);
 });

@@ -43,7 +43,7 @@ test('a mistake is shown at its line, and a click goes there', async (t) => {
   await caretBehind(tab, 'table', 'start   idle');
   await tab.type('x');
   assert.match(await tab.text('#answer'), /Table, line 5: there is no state 'idlex'; did you mean 'idle'\?/);
-  assert.equal(await tab.text('#pane-table .number.mistake'), '5');
+  assert.equal(await tab.text('#pane-table .ordinal.mistake'), '5');
   await tab.click('#tab-journal');
   await tab.click('.mistakes button');
   assert.equal(await tab.value("document.activeElement.closest('.editor')?.id"), 'pane-table');
@@ -81,9 +81,9 @@ test('arrow keys step through the records and light the machine', async (t) => {
 
 test('the caret and the diagram choose a record', async (t) => {
   const tab = await open(t, 'example=classroom');
-  await caretBehind(tab, 'journal', ' 5  test');
+  await caretBehind(tab, 'journal', ' 5  poll');
   await tab.key('ArrowDown');
-  assert.match(await tab.text('#where'), /^record 8 of 15, byte 60$/);
+  assert.match(await tab.text('#where'), /^record 7 of 15, byte 52$/);
   await tab.value("document.querySelector('#diagram [data-record=\"10\"]').dispatchEvent(new MouseEvent('click', { bubbles: true }))");
   assert.match(await tab.text('#where'), /^record 10 of 15, byte 76$/);
 });
@@ -184,9 +184,10 @@ async function askReaction(tab, { states, inputs, moves = 1 }) {
   return tab.text('#reaction-answer');
 }
 
-/** What is lit in the picture of the reaction panel, and nothing if it is hidden. */
+/** What is lit as the longest way: in the panel's picture, or in the automaton itself where there is no journal. */
 async function litPath(tab) {
-  const lit = (what, name) => tab.value(`[...document.querySelectorAll('#reaction-picture:not([hidden]) .${what}.lit')].map(${name}).sort()`);
+  const room = await tab.value("document.getElementById('diagram').hidden") ? '#automaton' : '#reaction-picture:not([hidden])';
+  const lit = (what, name) => tab.value(`[...document.querySelectorAll('${room} .${what}.lit')].map(${name}).sort()`);
   return { states: await lit('state', '({ dataset }) => dataset.state'), edges: await lit('edge', '({ dataset }) => dataset.from + dataset.to') };
 }
 
@@ -244,7 +245,7 @@ test('the panel says in words why no reaction time is given', async (t) => {
     assert.match(await askReaction(tab, { states: 3, inputs: 1, moves }), says, moves);
     assert.deepEqual(await litPath(tab), { states: [], edges: [] }, moves);
   }
-  assert.match(await askReaction(tab, { states: 3, inputs: 1, moves: 0 }), /^at most 0/);
+  assert.match(await askReaction(tab, { states: 3, inputs: 1, moves: 0 }), /^at most 3until.* over 0 moves/);
 });
 
 test('a table with timers has the reason in the place of the form', async (t) => {
@@ -278,7 +279,9 @@ test('the automaton has one layout on the page', async (t) => {
     await choose(tab, name);
     const places = await tab.value(PLACES('#automaton'));
     assert.ok(places.length > 1, name);
-    assert.deepEqual(await tab.value(PLACES('#reaction-picture:not([hidden])')), places, name);
+    const alone = await tab.value("document.getElementById('diagram').hidden");
+    assert.deepEqual(await tab.value(PLACES('#reaction-picture:not([hidden])')), alone ? [] : places, name);
+    assert.notDeepEqual((await litPath(tab)).states, [], name);
   }
 });
 
