@@ -6,7 +6,8 @@
  * @property {string} title
  * @property {string} says       what it shows, in a sentence
  * @property {'runs'|'errors of students'|'forms'|'tables'} group
- * @property {number} [moves]    over so many its reaction time is asked for; 1 if it is not said
+ * @property {{inputs?: number, moves?: number}} [asks]   the reaction time that it is about: a set of inputs, the first one if it is not
+ *                               said, and over how many moves, 1 if it is not said
  */
 
 /** @type {Example[]} */
@@ -41,9 +42,9 @@ export const EXAMPLES = [
     says: 'A controller whose clock wraps from 65,535 to 0, twice in this run.' },
   { name: 'torn-journal', title: 'A torn journal', group: 'forms',
     says: 'The supply was lost in the middle of a record. What is sound can be salvaged.' },
-  { name: 'stutter-filter', title: 'The stutter filter', group: 'tables',
+  { name: 'stutter-filter', title: 'The stutter filter', group: 'tables', asks: { inputs: 0b10 },
     says: 'A table to ask for reaction times: how long until "no train" is reported for sure?' },
-  { name: 'mixer', title: 'Back to idle', group: 'tables', moves: 3,
+  { name: 'mixer', title: 'Back to idle', group: 'tables', asks: { moves: 3 },
     says: 'A mixer is stopped. How long until it is idle again? The longest way back has three moves.' },
   { name: 'old-table', title: 'An old table', group: 'tables',
     says: 'It delays an input in a state without a hold, and is refused; it can be converted.' },

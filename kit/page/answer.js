@@ -4,7 +4,7 @@ import { acceptanceLine, refusalLine, sayAcceptance } from '../answers.js';
 import { MEANINGS } from '../explain.js';
 import { counted } from '../names.js';
 import { fill, make } from './dom.js';
-import { spotOf } from './workspace.js';
+import { PANE_NAMES, spotOf } from './workspace.js';
 
 /** @typedef {import('./workspace.js').Answers} Answers */
 /** @typedef {import('./workspace.js').Subject} Subject */
@@ -25,7 +25,6 @@ import { spotOf } from './workspace.js';
 const NOTHING = { meaning: '', sentences: [], slip: null, spot: null, mistakes: [] };
 /** @type {Said} */
 export const UNSAID = { ...NOTHING, look: 'quiet', line: '', about: '' };
-const PANE_NAMES = { table: 'Table', stimulus: 'Stimulus', journal: 'Journal' };
 const MISTAKES_SHOWN = 4;
 
 /**

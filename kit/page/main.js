@@ -8,6 +8,7 @@ import { listen } from './listening.js';
 import { catchAll, sayFault } from './net.js';
 import { openAddress } from './opening.js';
 import { Page } from './page.js';
+import { writePaper } from './paper.js';
 import { showNothing } from './unanswered.js';
 
 /** @param {(import('../examples.js').Example)[]} samples */
@@ -44,6 +45,7 @@ async function begin() {
   byId('undo').hidden = true;
   redraw(page);
   addEventListener('hashchange', () => openAddress(/** @type {Page} */ (page)));
+  addEventListener('beforeprint', () => writePaper(/** @type {Page} */ (page)));
   followWidth(page);
   document.documentElement.dataset.ready = 'yes';
 }

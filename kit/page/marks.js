@@ -59,7 +59,7 @@ export function markTexts({ answers, subject, said, step, editors }) {
  * @param {Answers} answers @param {Pane} pane
  * @returns {Map<number, string>|null}
  */
-function placesOf({ reading }, pane) {
+export function placesOf({ reading }, pane) {
   const part = reading[pane];
   if (!part) return null;
   const places = new Map();

@@ -30,7 +30,7 @@ export function openExample(page, name) {
   if (!sample) return false;
   const texts = { ...noTexts(), ...splitText(sample.text) };
   page.together.forget();
-  page.reaction.begin(sample.moves);
+  page.reaction.begin(sample.asks);
   page.replace(texts, texts.journal ? 'journal' : 'table', sample.title);
   clearTimeout(page.waiting.get('link'));
   byId('examples').value = name;

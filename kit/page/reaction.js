@@ -14,6 +14,8 @@ import { fill, make } from './dom.js';
 /** @typedef {{states: number, inputs: number, moves: number}} Question */
 /** @typedef {{number: number, line: string, beside: string[], sentences: string[], path: number[]}} Answer  `number` is the refusal's, or 0 */
 
+/** What is asked of a table first: how long one input lasts until the state is sure, over one move. */
+const FIRST = { inputs: 1, moves: 1 };
 /** A table with timers has no reaction times, whatever is asked. */
 const HAS_TIMERS = 14;
 
@@ -72,8 +74,8 @@ export class ReactionPanel {
     rooms.moves.addEventListener('input', () => this.answer());
     /** What the check boxes were made for. */
     this.made = '';
-    /** So many moves are asked for when they are made. */
-    this.opens = 1;
+    /** What is asked when they are made. */
+    this.opens = FIRST;
     /** @type {{bytes: Uint8Array, table: Table}|null} */
     this.given = null;
     this.sets = { states: 0, inputs: 0 };
@@ -82,12 +84,12 @@ export class ReactionPanel {
   }
 
   /**
-   * The form begins anew with what comes.
-   * @param {number} [moves]
+   * The form begins anew, with a question about what comes.
+   * @param {import('../examples.js').Example['asks']} [asks]
    */
-  begin(moves = 1) {
+  begin(asks) {
     this.made = '';
-    this.opens = moves;
+    this.opens = { ...FIRST, ...asks };
   }
 
   /** @param {Answers} answers */
@@ -102,9 +104,9 @@ export class ReactionPanel {
     const key = JSON.stringify([names.states, names.inputs]);
     if (key === this.made) return;
     this.made = key;
-    this.sets = { states: wholeSet(counts.states), inputs: 1 };
-    this.rooms.moves.value = String(this.opens);
-    this.opens = 1;
+    this.sets = { states: wholeSet(counts.states), inputs: this.opens.inputs };
+    this.rooms.moves.value = String(this.opens.moves);
+    this.opens = FIRST;
     this.#set('states', names.states);
     this.#set('inputs', names.inputs);
   }

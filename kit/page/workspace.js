@@ -54,6 +54,8 @@ import { traceJournal, traceStimulus } from '../trace.js';
 export const PANES = ['table', 'stimulus', 'journal'];
 const JOURNALS = ['journal', 'stamped', 'short'];
 
+export const PANE_NAMES = { table: 'Table', stimulus: 'Stimulus', journal: 'Journal' };
+
 /** @param {string} text */
 const linesOf = (text) => text.split(/\r\n|\n|\r/);
 

@@ -241,7 +241,7 @@ test('the panel says in words why no reaction time is given', async (t) => {
   assert.match(await askReaction(tab, { states: 3, inputs: 1, moves: 33 }), /^refused 32 at 0.*33 moves were asked for; at most 32 are calculated/);
   assert.deepEqual(await litPath(tab), { states: [], edges: [] });
   const [none, most] = [/0 to 32/, /^refused 32 at 0/];
-  for (const [moves, says] of [['-1', none], ['1.5', none], ['', none], ['1e400', none], ['33', most], ['4294967297', most]]) {
+  for (const [moves, says] of [['-1', none], ['1.5', none], ['', none], ['33', most], ['4294967297', most]]) {
     assert.match(await askReaction(tab, { states: 3, inputs: 1, moves }), says, moves);
     assert.deepEqual(await litPath(tab), { states: [], edges: [] }, moves);
   }
@@ -258,15 +258,16 @@ test('a table with timers has the reason in the place of the form', async (t) =>
   assert.match(await tab.text('#reaction-answer'), /^at most 14/);
 });
 
-test('the example that promises three moves asks for three; the next one asks for one', async (t) => {
+test('an example opens with the question that it promises, and the next one with its own', async (t) => {
   const tab = await open(t, 'example=mixer');
-  const asked = () => tab.value("document.getElementById('reaction-moves').value");
-  assert.equal(await asked(), '3');
+  const asked = async () => [await tab.value("document.getElementById('reaction-moves').value"),
+    await tab.value("[...document.querySelectorAll('#reaction-inputs input')].map(({ checked }) => Number(checked)).join('')")].join(' ');
+  assert.equal(await asked(), '3 10');
   assert.match(await tab.text('#reaction-answer'), new RegExp(`^at most ${library.reactionMoves(tableOf('mixer'), 31, 1, 3).time}until: idle`));
-  await choose(tab, 'classroom');
-  assert.equal(await asked(), '1');
-  await choose(tab, 'mixer');
-  assert.equal(await asked(), '3');
+  for (const [name, question] of [['classroom', '1 10'], ['stutter-filter', '1 01'], ['mixer', '3 10']]) {
+    await choose(tab, name);
+    assert.equal(await asked(), question, name);
+  }
 });
 
 /** In the page: where the states of a picture stand in it. */

@@ -1,0 +1,108 @@
+/**
+ * The page on paper: title, answer, diagram, automaton, and the texts in full. The library is asked once for all of it, so that nothing on
+ * a sheet is of another text than the rest. The texts come last: a journal of 64 KB leaves the answer on the first sheet.
+ */
+
+import { automaton } from '../automaton.js';
+import { diagram } from '../diagram.js';
+import { sayAnswer, subjectOf } from './answer.js';
+import { byId, fill, make, show } from './dom.js';
+import { machineAt, saidAt } from './machine.js';
+import { placesOf } from './marks.js';
+import { PANES, PANE_NAMES, ask } from './workspace.js';
+
+/** @typedef {import('./page.js').Page} Page */
+/** @typedef {import('./answer.js').Said} Said */
+/** @typedef {import('./workspace.js').Answers} Answers */
+/** @typedef {import('./workspace.js').Subject} Subject */
+/** @typedef {import('./workspace.js').Pane} Pane */
+/** @typedef {import('../types.js').Step} Step */
+
+/** The diagram is drawn for a sheet that stands upright and for one that lies across; the style shows the one that fits. */
+const WIDTHS = { upright: 720, across: 1040 };
+/** An automaton that is no higher stays on the sheet of the run, a little smaller if need be. */
+const LOW = 440;
+/** A text of more lines is set smaller, in more columns. */
+const LONG = 400;
+
+/**
+ * @param {Said} said
+ * @param {{record: string, says: string}|null} record  the one that is looked at
+ */
+function answerOf({ look, line, about, meaning, sentences, slip, spot, mistakes }, record) {
+  return make('div', { class: `answer ${look}` },
+    make('p', { class: 'line' }, make('span', { class: 'about' }, about), make('strong', {}, line), spot && make('span', {}, `line ${spot.line}`),
+      meaning && make('span', { class: 'meaning' }, meaning)),
+    sentences.length > 0 && make('p', {}, sentences.join(' ')), slip && make('p', { class: 'slip' }, slip),
+    mistakes.map(({ says }) => make('p', {}, says)),
+    record && make('p', {}, make('strong', { class: 'at-record' }, record.record), ` ${record.says}`));
+}
+
+/**
+ * @param {string} name @param {string} svg
+ */
+function figure(name, svg) {
+  const room = make('figure', { class: name });
+  show(room, svg);
+  room.classList.toggle('low', room.firstElementChild.height.baseVal.value <= LOW);
+  return room;
+}
+
+/**
+ * The run, with the record that is looked at, and the automaton.
+ * @param {Page} page @param {Answers} answers @param {Subject|null} subject @param {Step|null} step
+ */
+function picturesOf({ title }, { decoded }, subject, step) {
+  const run = subject && Object.entries(WIDTHS).map(([way, width]) =>
+    figure(`run ${way}`, diagram(subject.trace, { head: false, title, width, selected: step?.number ?? null, id: `paper-${way}` })));
+  const lit = { state: step && machineAt(step)?.state };
+  return [...run ?? [], decoded && figure('automaton', automaton(decoded, { lit, width: WIDTHS.upright }))];
+}
+
+/** So many lines that belong together are not parted. */
+const TOGETHER = 20;
+
+/**
+ * Lines up to an empty one.
+ * @param {HTMLElement[]} rows
+ * @returns {HTMLElement[]}
+ */
+function stanzas(rows) {
+  /** @type {HTMLElement[][]} */
+  const found = [[]];
+  for (const row of rows) {
+    found[found.length - 1].push(row);
+    if (row.textContent === '') found.push([]);
+  }
+  return found.map((stanza) => make('div', { class: stanza.length <= TOGETHER ? 'together' : '' }, stanza));
+}
+
+/**
+ * A text in full; each line has its number, and each record its place in the bytes.
+ * @param {Pane} pane @param {string} text @param {Answers} answers @param {Said} said
+ */
+function textOf(pane, text, answers, { look, spot, mistakes }) {
+  if (text.trim() === '') return null;
+  const places = pane === 'table' ? null : placesOf(answers, pane);
+  const wrong = [...mistakes.map((mistake) => mistake.spot), ...(look === 'refused' && spot ? [spot] : [])].filter((each) => each.pane === pane);
+  const lines = text.trimEnd().split('\n');
+  const place = (/** @type {number} */ number) => (places ? ` ${(places.get(number) ?? '').padStart(5)}` : '');
+  const rows = lines.map((line, k) => make('div', {
+    class: wrong.some((each) => each.line === k + 1) ? 'numbered wrong' : 'numbered', 'data-at': `${String(k + 1).padStart(4)}${place(k + 1)}  `,
+  }, line));
+  const kind = `${places ? 'with-places' : ''} ${lines.length > LONG ? 'long' : ''}`;
+  return make('section', { class: kind }, make('h2', {}, PANE_NAMES[pane]), stanzas(rows));
+}
+
+/** @param {Page} page */
+export function writePaper(page) {
+  const { library, texts, pane, title, step: { selected } } = page;
+  const answers = ask(library, texts);
+  const sound = answers.reading.mistakes.length === 0;
+  const subject = sound ? subjectOf(answers, pane) : null;
+  const said = sayAnswer(answers, subject);
+  const step = subject?.trace.steps[selected ?? -1] ?? null;
+  fill(byId('paper'), make('h1', {}, title), answerOf(said, subject && step && saidAt(subject.trace, step)),
+    ...(sound ? picturesOf(page, answers, subject, step) : []),
+    make('div', { class: 'texts' }, PANES.map((each) => textOf(each, texts[each], answers, said))));
+}
