@@ -32,7 +32,7 @@ export function showBadges({ reading, tableRefused, decoded, journal, stimulus }
  */
 export function showFoot({ answers, pane, texts }) {
   const part = answers.reading[pane];
-  const left = pane === 'table' ? '' : '; at the left the line, and the byte at which its record begins';
+  const left = pane === 'table' ? '' : '; at the left line and byte';
   const empty = texts[pane].trim() === '' ? `Empty. Begin with the words: krossvil ${pane}` : '';
   fill(byId('pane-says'), part ? `${counted(part.bytes.length, 'byte')}${left}` : empty);
   byId('run').hidden = !answers.reading.stimulus || pane === 'table';

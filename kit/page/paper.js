@@ -81,10 +81,10 @@ function stanzas(rows) {
  * A text in full; each line has its number, and each record its place in the bytes.
  * @param {Pane} pane @param {string} text @param {Answers} answers @param {Said} said
  */
-function textOf(pane, text, answers, { look, spot, mistakes }) {
+function textOf(pane, text, answers, { spot }) {
   if (text.trim() === '') return null;
   const places = pane === 'table' ? null : placesOf(answers, pane);
-  const wrong = [...mistakes.map((mistake) => mistake.spot), ...(look === 'refused' && spot ? [spot] : [])].filter((each) => each.pane === pane);
+  const wrong = [...answers.reading.mistakes, ...(spot ? [spot] : [])].filter((each) => each.pane === pane);
   const lines = text.trimEnd().split('\n');
   const place = (/** @type {number} */ number) => (places ? ` ${(places.get(number) ?? '').padStart(5)}` : '');
   const rows = lines.map((line, k) => make('div', {

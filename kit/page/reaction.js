@@ -56,8 +56,8 @@ export function answerReaction(library, { bytes, table }, question) {
  * @returns {Answer}
  */
 function notAsked(moves) {
-  const sentences = [moves === '' ? 'Say over how many moves: a whole number, 0 to 32.' : `${moves} is no number of moves. Say a whole number, 0 to 32.`];
-  return { number: 0, line: 'not asked', beside: [], sentences, path: [] };
+  const why = moves === '' ? 'No number of moves is given.' : `${moves} is no number of moves.`;
+  return { number: 0, line: 'not asked', beside: [], sentences: [why, 'Ask for a whole number, 0 to 32.'], path: [] };
 }
 
 /** The form for a reaction time, and its answer. */

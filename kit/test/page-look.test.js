@@ -36,8 +36,9 @@ const STEPPING = `(() => {
     const { left, top, width, height } = document.getElementById('diagram').getBoundingClientRect();
     return { left, top: top + scrollY, width, height, legend: document.querySelectorAll('#diagram .legend').length };
   };
+  const [first, next] = ['first', 'next'].map((id) => document.getElementById(id));
   const seen = [look()];
-  for (document.getElementById('first').click(); !document.getElementById('next').disabled; document.getElementById('next').click()) seen.push(look());
+  for (first.click(); !next.disabled; next.click()) seen.push(look());
   return [...seen, look()];
 })()`;
 

@@ -240,8 +240,9 @@ test('the panel says in words why no reaction time is given', async (t) => {
     /^refused 10 at 2The states do not hold together .* from 'busy' input 'no_train' leads to 'idle', which is not among them\. Add 'idle'/);
   assert.match(await askReaction(tab, { states: 3, inputs: 1, moves: 33 }), /^refused 32 at 0.*33 moves were asked for; at most 32 are calculated/);
   assert.deepEqual(await litPath(tab), { states: [], edges: [] });
-  const [none, most] = [/0 to 32/, /^refused 32 at 0/];
-  for (const [moves, says] of [['-1', none], ['1.5', none], ['', none], ['33', most], ['4294967297', most]]) {
+  const most = /^refused 32 at 0/;
+  const wrong = [['-1', /^not asked-1 is no .* 0 to 32\.$/], ['1.5', /^not asked1\.5 is no .* 0 to 32\.$/], ['', /^not askedNo number .* 0 to 32\.$/]];
+  for (const [moves, says] of [...wrong, ['33', most], ['4294967297', most]]) {
     assert.match(await askReaction(tab, { states: 3, inputs: 1, moves }), says, moves);
     assert.deepEqual(await litPath(tab), { states: [], edges: [] }, moves);
   }
@@ -250,7 +251,8 @@ test('the panel says in words why no reaction time is given', async (t) => {
 
 test('a table with timers has the reason in the place of the form', async (t) => {
   const tab = await open(t, 'example=gas-burner');
-  const form = () => tab.value("[...document.querySelectorAll('#reaction-panel :is(fieldset, input)')].filter((each) => each.checkVisibility()).length");
+  const form = () => tab.value(`[...document.querySelectorAll('#reaction-panel :is(fieldset, input)')]
+    .filter((each) => each.checkVisibility()).length`);
   assert.match(await tab.text('#reaction-answer'), /^refused 14 at 0This table has timers\./);
   assert.equal(await form(), 0);
   await choose(tab, 'classroom');
