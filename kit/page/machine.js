@@ -93,7 +93,7 @@ export function showMachine(room, trace, step) {
  * @param {string} name @param {string} value @param {boolean} changed
  */
 function cell(name, value, changed) {
-  const wide = /^(hold|timer|controller)/.test(name);
+  const wide = /^(hold|timer)/.test(name) ? 'widest' : /^(cycle|controller)/.test(name) ? 'wide' : '';
   const words = make('dd', {}, value, changed && make('span', { class: 'unseen' }, ' (changed)'));
-  return make('div', { class: `${changed ? 'changed' : ''} ${wide ? 'wide' : ''}` }, make('dt', {}, name), words);
+  return make('div', { class: `${changed ? 'changed' : ''} ${wide}` }, make('dt', {}, name), words);
 }

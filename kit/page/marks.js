@@ -55,15 +55,13 @@ export function markTexts({ answers, subject, said, step, editors }) {
 }
 
 /**
- * The place of each record in the bytes, by its line.
+ * The place of each record in the bytes, by its line; none while the text has a mistake.
  * @param {Answers} answers @param {Pane} pane
- * @returns {Map<number, string>|null}
+ * @returns {Map<number, string>}
  */
 export function placesOf({ reading }, pane) {
-  const part = reading[pane];
-  if (!part) return null;
   const places = new Map();
-  for (const { line, place } of part.origins) {
+  for (const { line, place } of reading[pane]?.origins ?? []) {
     const own = reading.place(line).line;
     if (!places.has(own)) places.set(own, String(place));
   }

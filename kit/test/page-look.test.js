@@ -90,6 +90,11 @@ test('the margin has the line and the byte that the answer names', async (t) => 
   const named = /refused 28 at (\d+)(line (\d+))/.exec(await tab.text('#answer .line'));
   assert.equal(await tab.text('#pane-journal .number.refused'), named[1]);
   assert.equal(`line ${await tab.text('#pane-journal .ordinal.refused')}`, named[2]);
+  const left = () => tab.value("document.querySelector('#pane-journal textarea').getBoundingClientRect().left");
+  const before = await left();
+  await setPane(tab, 'journal', 'krossvil journal\ninput no_tarin\n');
+  assert.equal(await tab.text('#pane-journal .ordinal.mistake'), '2');
+  assert.equal(await left(), before, 'a mistake moves nothing to the side');
 });
 
 test('the line that is wrong is in sight when an example opens', async (t) => {
