@@ -6,6 +6,7 @@
 import { automaton } from '../automaton.js';
 import { diagram } from '../diagram.js';
 import { sayAnswer, subjectOf } from './answer.js';
+import { noTexts, splitText } from './documents.js';
 import { byId, fill, make, show } from './dom.js';
 import { machineAt, saidAt } from './machine.js';
 import { placesOf } from './marks.js';
@@ -94,15 +95,25 @@ function textOf(pane, text, answers, { spot }) {
   return make('section', { class: kind }, make('h2', {}, PANE_NAMES[pane]), stanzas(rows));
 }
 
+/**
+ * What was opened; of an example whose texts are others now it is said.
+ * @param {Page} page
+ */
+function titleOf({ title, samples, texts }) {
+  const sample = samples.find((each) => each.title === title);
+  const own = sample ? { ...noTexts(), ...splitText(sample.text) } : texts;
+  return PANES.every((pane) => own[pane] === texts[pane]) ? title : `${title}, edited`;
+}
+
 /** @param {Page} page */
 export function writePaper(page) {
-  const { library, texts, pane, title, step: { selected } } = page;
+  const { library, texts, pane, step: { selected } } = page;
   const answers = ask(library, texts);
   const sound = answers.reading.mistakes.length === 0;
   const subject = sound ? subjectOf(answers, pane) : null;
   const said = sayAnswer(answers, subject);
   const step = subject?.trace.steps[selected ?? -1] ?? null;
-  fill(byId('paper'), make('h1', {}, title), answerOf(said, subject && step && saidAt(subject.trace, step)),
+  fill(byId('paper'), make('h1', {}, titleOf(page)), answerOf(said, subject && step && saidAt(subject.trace, step)),
     ...(sound ? picturesOf(page, answers, subject, step) : []),
     make('div', { class: 'texts' }, PANES.map((each) => textOf(each, texts[each], answers, said))));
 }

@@ -81,10 +81,11 @@ test('a printed page has title, answer, diagram, automaton and the texts in full
 
 test('what is printed is of the texts that are there, and of nothing else', async (t) => {
   const tab = await open(t, 'example=changed-verdict');
-  await printed(t, tab);
+  assert.ok(!(await printed(t, tab)).text.includes('edited'));
   await setPane(tab, 'journal', sample('quarry').split(/(?=^krossvil journal)/m)[1]);
   const { text } = await printed(t, tab);
   assert.ok(text.includes(expected('quarry')) && !text.includes(expected('changed-verdict')));
+  assert.ok(text.includes('The changed verdict, edited'), 'not the title of an example that is another');
   await setPane(tab, 'journal', 'krossvil journal\ninput no_tarin\n');
   const wrong = await printed(t, tab);
   assert.match(wrong.text, /Journal, line 2: there is no input 'no_tarin'/);
