@@ -85,11 +85,11 @@ function stanzas(rows) {
 function textOf(pane, text, answers, { spot }) {
   if (text.trim() === '') return null;
   const places = pane === 'table' ? null : placesOf(answers, pane);
-  const wrong = [...answers.reading.mistakes, ...(spot ? [spot] : [])].filter((each) => each.pane === pane);
+  const wrong = new Set([...answers.reading.mistakes, ...(spot ? [spot] : [])].filter((each) => each.pane === pane).map(({ line }) => line));
   const lines = text.trimEnd().split('\n');
   const place = (/** @type {number} */ number) => (places ? ` ${(places.get(number) ?? '').padStart(5)}` : '');
   const rows = lines.map((line, k) => make('div', {
-    class: wrong.some((each) => each.line === k + 1) ? 'numbered wrong' : 'numbered', 'data-at': `${String(k + 1).padStart(4)}${place(k + 1)}  `,
+    class: wrong.has(k + 1) ? 'numbered wrong' : 'numbered', 'data-at': `${String(k + 1).padStart(4)}${place(k + 1)}  `,
   }, line));
   const kind = `${places ? 'with-places' : ''} ${lines.length > LONG ? 'long' : ''}`;
   return make('section', { class: kind }, make('h2', {}, PANE_NAMES[pane]), stanzas(rows));

@@ -241,8 +241,8 @@ test('the panel says in words why no reaction time is given', async (t) => {
   assert.match(await askReaction(tab, { states: 3, inputs: 1, moves: 33 }), /^refused 32 at 0.*33 moves were asked for; at most 32 are calculated/);
   assert.deepEqual(await litPath(tab), { states: [], edges: [] });
   const most = /^refused 32 at 0/;
-  const wrong = [['-1', /^not asked-1 is no .* 0 to 32\.$/], ['1.5', /^not asked1\.5 is no .* 0 to 32\.$/], ['', /^not askedNo number .* 0 to 32\.$/]];
-  for (const [moves, says] of [...wrong, ['33', most], ['4294967297', most]]) {
+  const wrong = ['-1 is', '1.5 is', 'No number'].map((words) => new RegExp(`^not asked${words.replace('.', '\\.')} .* 0 to 32\\.$`));
+  for (const [moves, says] of [['-1', wrong[0]], ['1.5', wrong[1]], ['', wrong[2]], ['33', most], ['4294967297', most]]) {
     assert.match(await askReaction(tab, { states: 3, inputs: 1, moves }), says, moves);
     assert.deepEqual(await litPath(tab), { states: [], edges: [] }, moves);
   }
