@@ -2,8 +2,9 @@
  * A journal as a value change dump, which GTKWave opens.
  *
  * Input, polled input, verdict, state, output and phase stand there by their names, as GTKWave's strings; for other viewers also by their
- * numbers. `cycle` counts the cycles from 0, `left` is how many ticks are left at a held test. Where the journal was refused, `refused` becomes
- * 1 at the record. The dump ends one unit later than the journal, so that what happens last can be seen.
+ * numbers. `cycle` counts the cycles from 0, `left` is how many ticks are left at a held test. Polled input, verdict and `left` stay until the
+ * next poll, since poll, test and tick may share an instant. Where the journal was refused, `refused` becomes 1 at the record. The dump ends one
+ * unit later than the journal, so that what happens last can be seen.
  */
 import { vcdWord, visible } from './escape.js';
 import { nameOf } from './name-of.js';
@@ -65,22 +66,33 @@ function change(name, value) {
 }
 
 /**
- * All values after an accepted record. Polled input and verdict are those of this cycle.
+ * What the machine is after an accepted record.
  * @param {Trace} trace @param {Step} step @param {number} cycle
  * @returns {Record<string, string|number|null>}
  */
-function valuesOf(trace, step, cycle) {
-  const { names, table } = trace;
-  const machine = step.after;
+function valuesOf({ names, table }, { after: machine }, cycle) {
   if (machine === null) return {};
-  const polled = machine.phase === 0 ? null : machine.polled;
-  const verdict = machine.phase === 2 ? 0 : machine.phase === 3 ? 1 : null;
   const output = table.outputs[machine.state];
   return {
-    input: nameOf(names.inputs, machine.present), polled: nameOf(names.inputs, polled), verdict: nameOf(['held', 'free'], verdict),
-    state: nameOf(names.states, machine.state), output: nameOf(names.outputs, output), phase: PHASES[machine.phase],
-    cycle, refused: 0, input_number: machine.present, polled_number: polled, state_number: machine.state, output_number: output,
-    phase_number: machine.phase, verdict_number: verdict,
+    input: nameOf(names.inputs, machine.present), state: nameOf(names.states, machine.state), output: nameOf(names.outputs, output),
+    phase: PHASES[machine.phase], cycle, refused: 0, input_number: machine.present, state_number: machine.state, output_number: output,
+    phase_number: machine.phase,
+  };
+}
+
+/**
+ * What a poll and a test found. Only the next poll takes it away.
+ * @param {Trace} trace @param {Step} step
+ * @returns {Record<string, string|number|null>}
+ */
+function foundBy(trace, step) {
+  const { record: { kind, value }, after } = step;
+  if (after === null || !['input', 'poll', 'test'].includes(kind)) return {};
+  const polled = kind === 'input' ? null : after.polled;
+  const verdict = kind === 'test' ? value : null;
+  return {
+    polled: nameOf(trace.names.inputs, polled), polled_number: polled,
+    verdict: nameOf(['held', 'free'], verdict), verdict_number: verdict, left: left(trace, step),
   };
 }
 
@@ -155,8 +167,7 @@ export function vcd(trace, options = {}) {
     cycle += step.record.kind === 'tick' ? 1 : 0;
     dump.at(step.record.time);
     dump.event(step.record.kind);
-    dump.put(valuesOf(trace, step, cycle));
-    if (['input', 'test', 'tick'].includes(step.record.kind)) dump.put({ left: left(trace, step) });
+    dump.put({ ...valuesOf(trace, step, cycle), ...foundBy(trace, step) });
   }
   if (trace.stop !== null) {
     dump.at(trace.steps[trace.stop].record.time);

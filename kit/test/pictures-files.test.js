@@ -9,11 +9,12 @@ import { diagram } from '../diagram.js';
 import { dwellPlot, reportOf } from '../dwell-plot.js';
 import { escapeXml, quoteDot, vcdWord, visible } from '../escape.js';
 import { encodeTable } from '../fields.js';
+import { readText } from '../notation.js';
 import { DARK, LIGHT, inTurn } from '../theme.js';
 import { fit, widthOf, wrap } from '../text-width.js';
 import { gtkw, vcd } from '../vcd.js';
 import { Chance } from './chance.js';
-import { library } from './core.js';
+import { library, sample } from './core.js';
 import { drawRun, perhapsDamaged } from './draw.js';
 import { HOSTILE, longJournal, slow, tableOf, traceOf, traceOfSample, withHostileNames } from './pictures-fixtures.js';
 import { all, ofClass, readXml } from './well-formed.js';
@@ -95,7 +96,7 @@ function readVcd(text) {
   const times = [];
   for (const line of lines.slice(end + 1)) {
     if (line.startsWith('#')) {
-      times.push({ time: Number(line.slice(1)), values: new Map() });
+      times.push({ time: Number(line.slice(1)), values: new Map(values) });
       continue;
     }
     const found = /^(?:s([!-~]+) |b([01]+|x) |([01x]))([!-~])$/.exec(line);
@@ -120,6 +121,20 @@ test("the classroom's dump has its states, verdicts and cycles", () => {
   assert.equal(times[times.length - 1].values.get('refused') ?? '0', '0');
   const refused = readVcd(vcd(traceOfSample('changed-verdict')));
   assert.equal(refused.find(({ time }) => time === 8).values.get('refused'), '1');
+});
+
+test('verdict and ticks left stay until the next poll, where poll, test and tick share an instant too', () => {
+  const source = `${sample('classroom').split('krossvil stimulus')[0]}krossvil stimulus\ninput train\n${
+    ['2 poll', '2 test', '2 tick', '3 change no_train', '4 poll', '4 test', '4 tick', '6 poll', '7 test', '7 tick', '8 poll', '8 test', '8 tick',
+      '9 end'].join('\n')}\n`;
+  const { parts: [table, stimulus] } = readText(source);
+  const times = readVcd(vcd(traceOf(tableOf('classroom'), library.run(table.bytes, stimulus.bytes).bytes)));
+  const seen = times.map(({ time, values }) => [time, values.get('verdict'), parseInt(values.get('left'), 2), values.get('polled')]);
+  assert.deepEqual(seen, [
+    [0, '\\x20', 0, '\\x20'], [2, 'free', 0, 'train'], [3, 'free', 0, 'train'], [4, 'held', 4, 'no_train'],
+    [6, '\\x20', 0, 'no_train'], [7, 'held', 1, 'no_train'], [8, 'free', 0, 'no_train'], [9, 'free', 0, 'no_train'],
+    [10, 'free', 0, 'no_train'],
+  ]);
 });
 
 test('what GTKWave is to show is in the dump, under any name of the file', () => {
