@@ -2,9 +2,8 @@
  * The automaton as DOT, for Graphviz: what automaton.js draws, laid out by others.
  */
 import { escapeXml, quoteDot } from '../escape.js';
-import { nameOf } from '../name-of.js';
 import { LIGHT } from '../theme.js';
-import { edgesOf, wordsOf } from './graph.js';
+import { edgesOf, namesOf, wordsOf } from './graph.js';
 import { notes } from './notes.js';
 
 /** @typedef {import('../types.js').Table} Table */
@@ -24,13 +23,13 @@ function node(table, names, state) {
 }
 
 /**
+ * Whoever points at an edge sees all its inputs.
  * @param {Names} names @param {import('./graph.js').Edge} edge
  */
-function arrow(names, { from, to, free, delayed }) {
-  const list = (/** @type {number[]} */ inputs) => inputs.map((input) => nameOf(names.inputs, input)).join(', ');
-  const line = (/** @type {number[]} */ inputs, /** @type {string} */ style) =>
-    (inputs.length === 0 ? [] : [`  s${from} -> s${to} [label=${quoteDot(list(inputs))}${style}];`]);
-  return [...line(free, ''), ...line(delayed, `, style=dashed, color="${LIGHT.held}", fontcolor="${LIGHT.held}"`)];
+function arrow(names, { from, to, free, delayed, says }) {
+  const line = (/** @type {string} */ words, /** @type {number[]} */ inputs, /** @type {string} */ style) =>
+    (inputs.length === 0 ? [] : [`  s${from} -> s${to} [label=${quoteDot(words)}, tooltip=${quoteDot(namesOf(inputs, names.inputs))}${style}];`]);
+  return [...line(says.free, free, ''), ...line(says.delayed, delayed, `, style=dashed, color="${LIGHT.held}", fontcolor="${LIGHT.held}"`)];
 }
 
 /**
@@ -47,7 +46,7 @@ function caption(table, names) {
  */
 export function automatonDot(table, options = {}) {
   const names = options.names ?? table.names;
-  const edges = edgesOf(table).filter((edge) => options.loops !== false || edge.from !== edge.to);
+  const edges = edgesOf(table, names).filter((edge) => options.loops !== false || edge.from !== edge.to);
   return [
     'digraph automaton {',
     '  rankdir=LR; nodesep=0.6; ranksep=1.1; pad=0.2;',

@@ -2,6 +2,7 @@
 
 import { circle, element, group, line, path, short, text } from '../svg.js';
 import { nameOf } from '../name-of.js';
+import { namesOf } from './graph.js';
 import { EDGE_SIZE, edgeLabel, linesIn } from './words.js';
 
 /** @typedef {import('../svg.js').Markup} Markup */
@@ -41,9 +42,8 @@ function drawEdge({ names, theme, litInput }, edge, d, tip, before) {
   const lit = litInput(edge.from, edge.to) !== null;
   const waits = edge.free.length === 0;
   const colour = lit ? theme.lit : waits ? theme.held : theme.ink;
-  const list = (/** @type {number[]} */ inputs) => inputs.map((input) => nameOf(names.inputs, input)).join(', ');
-  const after = edge.delayed.length > 0 ? `; after the hold: ${list(edge.delayed)}` : '';
-  const title = `${nameOf(names.states, edge.from)} to ${nameOf(names.states, edge.to)}: ${list(edge.free)}${after}`;
+  const after = edge.delayed.length > 0 ? `; after the hold: ${namesOf(edge.delayed, names.inputs)}` : '';
+  const title = `${nameOf(names.states, edge.from)} to ${nameOf(names.states, edge.to)}: ${namesOf(edge.free, names.inputs)}${after}`;
   return group({ class: lit ? 'edge lit' : 'edge', 'data-from': edge.from, 'data-to': edge.to }, element('title', {}, title),
     path(d, { fill: 'none', stroke: colour, 'stroke-width': lit ? 4 : 1.7, 'stroke-dasharray': waits ? '7 4' : null }),
     path(arrowHead(tip, before, lit ? 15 : 11), { fill: colour }));
@@ -132,10 +132,10 @@ function badge({ path: walk, layout: { radius }, theme }, place, state) {
  * its place, and places do not change while one steps.
  * @param {Scene} scene
  */
-export function labels({ layout, names, theme, litInput }) {
+export function labels({ layout, theme, litInput }) {
   const rim = { stroke: theme.paper, 'stroke-width': 4, 'stroke-linejoin': 'round', 'paint-order': 'stroke' };
   return [...layout.edges, ...layout.loops].map(({ edge, label }) => {
-    const { lines, height } = edgeLabel(edge, names.inputs, litInput(edge.from, edge.to));
+    const { lines, height } = edgeLabel(edge, litInput(edge.from, edge.to));
     return lines.map(({ text: words, lit, delayed }, k) => {
       const style = { size: EDGE_SIZE, fill: lit ? theme.lit : delayed ? theme.held : theme.ink };
       return text(label.x, label.y - height / 2 + EDGE_SIZE * (0.95 + 1.2 * k), words, { ...style, anchor: 'middle' }, rim);

@@ -15,19 +15,37 @@ import { nameOf } from '../name-of.js';
  * @property {number} to
  * @property {number[]} free      the inputs that lead there at once
  * @property {number[]} delayed   the inputs that lead there when the hold is passed
+ * @property {{free: string, delayed: string}} says   both, as the picture names them
  */
 
 /**
- * @param {Table} table
+ * @param {Table} table @param {Names} [names]
  * @returns {Edge[]}  loops too
  */
-export function edgesOf(table) {
+export function edgesOf(table, names = table.names) {
   return table.next.flatMap((row, from) => {
     const waits = delayedIn(table, from);
-    return [...new Set(row)].map((to) => {
+    return withWords([...new Set(row)].map((to) => {
       const inputs = row.map((_, input) => input).filter((input) => row[input] === to);
       return { from, to, free: inputs.filter((input) => !has(waits, input)), delayed: inputs.filter((input) => has(waits, input)) };
-    });
+    }), names.inputs);
+  });
+}
+
+/**
+ * The edges of one state with their words. Where a single one has more inputs than can be named, these are all others.
+ * @param {Omit<Edge, 'says'>[]} edges @param {string[]} names
+ * @returns {Edge[]}
+ */
+function withWords(edges, names) {
+  const long = edges.filter(({ free, delayed }) => tooLong(free, names) || tooLong(delayed, names));
+  const rest = edges.length === 1 ? 'every input' : 'all others';
+  return edges.map((edge) => {
+    const { free, delayed } = edge;
+    const says = { free: listOf(free, names), delayed: listOf(delayed, names) };
+    if (long.length !== 1 || edge !== long[0]) return { ...edge, says };
+    if (!tooLong(free, names)) return { ...edge, says: { ...says, delayed: free.length === 0 ? rest : 'all others' } };
+    return { ...edge, says: { free: rest, delayed: tooLong(delayed, names) ? `${delayed.length} delayed` : says.delayed } };
   });
 }
 
@@ -39,18 +57,23 @@ export function edgesOf(table) {
  * @property {string} delayed   the names of all inputs that are delayed here
  */
 
-/** Longer lists of inputs are only counted; whoever points at them sees them all. */
+/** Longer lists of inputs are not told by name; whoever points at them sees them all. */
 const MOST_INPUTS = 6;
 const LONGEST_LIST = 26;
+
+/** @param {number[]} inputs @param {string[]} names */
+export const namesOf = (inputs, names) => inputs.map((input) => nameOf(names, input)).join(', ');
+
+/** @param {number[]} inputs @param {string[]} names */
+const tooLong = (inputs, names) => inputs.length > MOST_INPUTS || (inputs.length > 2 && namesOf(inputs, names).length > LONGEST_LIST);
 
 /**
  * Inputs as a picture names them: all by name if they are few.
  * @param {number[]} inputs @param {string[]} names
  */
 export function listOf(inputs, names) {
-  const list = inputs.map((input) => nameOf(names, input)).join(', ');
   if (inputs.length === names.length && names.length > 2) return 'every input';
-  return inputs.length > MOST_INPUTS || (inputs.length > 2 && list.length > LONGEST_LIST) ? `${inputs.length} inputs` : list;
+  return tooLong(inputs, names) ? `${inputs.length} inputs` : namesOf(inputs, names);
 }
 
 /**
@@ -64,6 +87,6 @@ export function wordsOf(table, names, state) {
   const timers = table.timers.map((timer, k) => ({ text: `${nameOf(names.timers, k)} ${delays(timer.delays[state])}`, timer: k }))
     .filter(({ timer }) => has(table.timers[timer].region, state) && table.timers[timer].delays[state] !== 0);
   const holds = table.kind === 'holds' ? [{ text: hold, timer: null }] : timers;
-  const delayed = members(delayedIn(table, state)).map((input) => nameOf(names.inputs, input)).join(', ');
+  const delayed = namesOf(members(delayedIn(table, state)), names.inputs);
   return { output: nameOf(names.outputs, table.outputs[state]), name: nameOf(names.states, state), holds, delayed };
 }

@@ -101,10 +101,10 @@ function frameOf({ places, radius, edges, loops, arrow }) {
 export function layoutOf(table, names, { width, loops: withLoops }) {
   const words = table.outputs.map((_, state) => wordsOf(table, names, state));
   const radius = radiusFor(words);
-  const all = edgesOf(table);
+  const all = edgesOf(table, names);
   const edges = all.filter((edge) => edge.from !== edge.to);
   const loops = withLoops ? all.filter((edge) => edge.from === edge.to) : [];
-  const size = (/** @type {import('./graph.js').Edge} */ edge) => edgeLabel(edge, names.inputs, null);
+  const size = (/** @type {import('./graph.js').Edge} */ edge) => edgeLabel(edge, null);
   const widest = Math.max(0, ...edges.map((edge) => size(edge).width));
   const places = place(graphOf(table, edges), gridFor(table.counts.states, radius, widest, width));
   const drawn = { places, radius, routes: routesOf(edges, places, radius) };

@@ -2,7 +2,6 @@
  * Words in states and at edges: how they are set, and how large a state's circle must be for them.
  */
 import { fit, widthOf, wrap } from '../text-width.js';
-import { listOf } from './graph.js';
 
 /** @typedef {import('./graph.js').Words} Words */
 /** @typedef {import('./graph.js').Edge} Edge */
@@ -104,14 +103,14 @@ const MOST_LINES = 3;
 
 /**
  * The inputs of an edge: at once, then after the hold.
- * @param {Edge} edge @param {string[]} names
+ * @param {Edge} edge
  * @param {number|null} lit     the input that is lit
  * @returns {Label}
  */
-export function edgeLabel(edge, names, lit) {
-  const of = (/** @type {number[]} */ inputs, /** @type {boolean} */ delayed) =>
-    wrap(listOf(inputs, names), EDGE_ROOM, EDGE_SIZE).map((text) => ({ text, delayed, lit: lit !== null && inputs.includes(lit) }));
-  const all = [...of(edge.free, false), ...of(edge.delayed, true)];
+export function edgeLabel({ free, delayed, says }, lit) {
+  const of = (/** @type {string} */ words, /** @type {number[]} */ inputs) => wrap(words, EDGE_ROOM, EDGE_SIZE)
+    .map((text) => ({ text, delayed: inputs === delayed, lit: lit !== null && inputs.includes(lit) }));
+  const all = [...of(says.free, free), ...of(says.delayed, delayed)];
   const lines = all.length <= MOST_LINES ? all : [...all.slice(0, MOST_LINES - 1), { ...all[MOST_LINES - 1], text: '…' }];
   const width = Math.max(...lines.map((line) => widthOf(line.text, EDGE_SIZE)));
   return { lines, width, height: lines.length * EDGE_SIZE * 1.2 };

@@ -58,6 +58,33 @@ test('each state and each edge is there once, and each input is named', () => {
   }
 });
 
+/** 32 inputs: the state moves on with the first ones, and stays with all others. */
+function withOthers(delayed) {
+  const inputs = Array.from({ length: 32 }, (_, k) => `i${k}`);
+  const next = [0, 1].map((q) => inputs.map((_, input) => (input < 3 ? 1 - q : q)));
+  return {
+    ...TABLES[0], counts: { states: 2, inputs: 32, outputs: 2 }, next, holds: [0, 5], delayed: [0, delayed],
+    names: { ...TABLES[0].names, inputs },
+  };
+}
+
+test('inputs that are too many to name are all others where the rest is named, on edges and in DOT', () => {
+  const said = (table) => {
+    const words = edgesOf(table).map(({ says }) => [says.free, says.delayed].filter(Boolean));
+    const shown = new Set(all(look(table)).map(({ text }) => text));
+    assert.deepEqual(words.flat().filter((each) => !shown.has(each)), []);
+    return words.map((each) => each.join('/')).sort();
+  };
+  assert.deepEqual(said(withOthers(2 ** 32 - 1)), ['all others', 'all others', 'i0, i1, i2', 'i0, i1, i2']);
+  assert.deepEqual(said(withOthers(0xffff0001)), ['all others', 'all others/16 delayed', 'i0, i1, i2', 'i1, i2/i0']);
+  assert.deepEqual(said(withOthers(0b11000)), ['all others', 'all others/i3, i4', 'i0, i1, i2', 'i0, i1, i2']);
+  const toFour = { ...withOthers(0), next: [0, 1].map(() => Array.from({ length: 32 }, (_, input) => input % 2)) };
+  assert.deepEqual(said(toFour), Array(4).fill('16 inputs'));
+  const alone = { ...withOthers(0xffff0000), next: [Array(32).fill(1), Array(32).fill(0)] };
+  assert.deepEqual(said(alone), ['every input', 'every input/16 delayed']);
+  assert.match(automatonDot(withOthers(0)), /s0 -> s0 \[label="all others", tooltip="i3, i4, .*, i31"\];/);
+});
+
 test('what is lit is lit, and nothing else', () => {
   const gas = tableOf('gas-burner');
   const name = ({ attributes }) => attributes['data-state'] ?? `${attributes['data-from']}-${attributes['data-to']}`;
