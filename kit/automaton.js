@@ -6,13 +6,13 @@
  */
 
 import { picture, rect, short } from './svg.js';
-import { nameOf } from './name-of.js';
-import { thousands } from './names.js';
+import { shrunk } from './slide.js';
 import { THEMES } from './theme.js';
 import { arrow, edges, labels, loops, states } from './automaton/drawing.js';
 import { layoutOf } from './automaton/layout.js';
 import { notesOf } from './automaton/notes.js';
 import { regions } from './automaton/regions.js';
+import { summary } from './automaton/summary.js';
 
 export { automatonDot } from './automaton/dot.js';
 
@@ -31,7 +31,8 @@ export { automatonDot } from './automaton/dot.js';
 /**
  * @typedef {Object} Options
  * @property {string} [title]
- * @property {number} [width]       the picture is laid out for this width, and no wider; 800 if it is not said
+ * @property {number} [width]       the picture is no wider; if it is not said, it fits a slide
+ * @property {boolean} [slide]      it has the shape of a slide, however small it becomes; else it is laid out for its width
  * @property {Lit} [lit]
  * @property {boolean} [loops]      inputs that leave the state where it is; yes if it is not said
  * @property {Names} [names]        in the place of the table's own
@@ -47,8 +48,8 @@ const NARROWEST = 240;
  */
 export function automaton(table, options = {}) {
   const names = options.names ?? table.names;
-  const wanted = Math.max(200, options.width ?? 800);
-  const layout = remembered(table, names, wanted, options.loops ?? true);
+  const wanted = options.width && Math.max(200, options.width);
+  const layout = remembered(table, names, options.slide || !wanted ? Infinity : wanted, options.loops ?? true);
   const theme = THEMES[options.theme ?? 'light'] ?? THEMES.light;
   /** @type {Scene} */
   const scene = { table, names, layout, theme, ...lights(table, options.lit ?? {}) };
@@ -57,7 +58,7 @@ export function automaton(table, options = {}) {
   const left = frame.x - (width - frame.width) / 2;
   const notes = notesOf(scene, width - 24);
   const height = frame.height + notes.height;
-  const scale = Math.min(1, wanted / width);
+  const scale = shrunk({ width, height }, wanted);
   const about = {
     width: width * scale, height: height * scale, title: options.title || 'Automaton', description: summary(table, names),
     className: 'krossvil-automaton', data: { viewBox: `${short(left)} ${short(frame.y)} ${short(width)} ${short(height)}` },
@@ -82,15 +83,6 @@ function remembered(table, names, width, withLoops) {
   LAYOUTS.set(key, layout);
   if (LAYOUTS.size > 8) LAYOUTS.delete([...LAYOUTS.keys()][0]);
   return layout;
-}
-
-/**
- * @param {Table} table @param {Names} names
- */
-function summary(table, names) {
-  const { states: q, inputs: i, outputs: o } = table.counts;
-  const start = nameOf(names.states, table.start);
-  return `${q} states, ${i} inputs, ${o} outputs; initial state ${start}, cycle at most ${thousands(table.cycle)}`;
 }
 
 /**

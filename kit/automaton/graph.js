@@ -33,7 +33,7 @@ export function edgesOf(table, names = table.names) {
 }
 
 /**
- * The edges of one state with their words. Where a single one has more inputs than can be named, these are all others.
+ * The edges of one state with their words. Where a single one has more inputs than can be named, and most of all, these are all others.
  * @param {Omit<Edge, 'says'>[]} edges @param {string[]} names
  * @returns {Edge[]}
  */
@@ -43,10 +43,22 @@ function withWords(edges, names) {
   return edges.map((edge) => {
     const { free, delayed } = edge;
     const says = { free: listOf(free, names), delayed: listOf(delayed, names) };
-    if (long.length !== 1 || edge !== long[0]) return { ...edge, says };
+    if (long.length !== 1 || edge !== long[0] || 2 * (free.length + delayed.length) <= names.length) return { ...edge, says };
     if (!tooLong(free, names)) return { ...edge, says: { ...says, delayed: free.length === 0 ? rest : 'all others' } };
     return { ...edge, says: { free: rest, delayed: tooLong(delayed, names) ? `${delayed.length} delayed` : says.delayed } };
   });
+}
+
+/** With more pairs of arrows than this for each state, so many cross that none can be followed: found by looking at tables of 2 to 32 states. */
+const TANGLED = 200;
+
+/**
+ * Would the arrows be a tangle? Loops cross nothing, and do not count.
+ * @param {Table} table
+ */
+export function isTangled(table) {
+  const arrows = table.next.reduce((sum, row, from) => sum + new Set(row.filter((to) => to !== from)).size, 0);
+  return arrows ** 2 / table.counts.states > TANGLED;
 }
 
 /**

@@ -2,6 +2,7 @@
  * Where everything of an automaton's picture stands.
  */
 import { members } from '../sets.js';
+import { SLIDE } from '../slide.js';
 import { edgesOf, wordsOf } from './graph.js';
 import { besideEdge, besideLoop } from './labels.js';
 import { loopAt, startArrow } from './loops.js';
@@ -56,7 +57,7 @@ function graphOf(table, edges) {
 }
 
 /**
- * As many columns as the width takes, in a shape that is wider than high.
+ * In the shape of a slide, or with as many columns as the width takes.
  * @param {number} count @param {number} radius
  * @param {number} widest    of the words at edges
  * @param {number} width
@@ -66,8 +67,9 @@ function gridFor(count, radius, widest, width) {
   const dx = 2 * radius + Math.min(Math.max(76, widest + 34), 150);
   const dy = 2 * radius + 72;
   const most = Math.max(2, Math.floor((width - 120 + dx - 2 * radius) / dx));
-  const columns = Math.min(most, Math.max(2, count <= 4 ? count : Math.ceil(Math.sqrt(count * 1.9))));
   const spare = count <= 2 ? 0 : Math.ceil(count * 0.35);
+  const wanted = count <= 4 ? count : Math.ceil(Math.sqrt((count + spare) * (dy / dx) * SLIDE.width / SLIDE.height));
+  const columns = Math.min(most, Math.max(2, wanted));
   return { columns, rows: Math.max(1, Math.ceil((count + spare) / columns)), dx, dy, clear: radius + 10 };
 }
 

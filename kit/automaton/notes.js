@@ -26,13 +26,13 @@ export function notes(table, names) {
 
 /**
  * The notes in lines, in the colours of the timers.
- * @param {import('./drawing.js').Scene} scene @param {number} room
+ * @param {{table: Table, names: Names, theme: import('../theme.js').Theme}} scene @param {number} room @param {boolean} [centred]
  * @returns {{height: number, markup: (x: number, y: number) => import('../svg.js').Content}}
  */
-export function notesOf({ table, names, theme }, room) {
+export function notesOf({ table, names, theme }, room, centred = true) {
   const fill = (/** @type {number} */ k) => (k === 0 ? theme.quiet : theme.timers[(k - 1) % theme.timers.length]);
   const lines = notes(table, names).flatMap((note, k) => wrap(note, room, SIZE).slice(0, 4).map((line) => ({ line, fill: fill(k) })));
-  const indent = Math.max(0, (room - Math.max(...lines.map(({ line }) => widthOf(line, SIZE)))) / 2);
+  const indent = centred ? Math.max(0, (room - Math.max(...lines.map(({ line }) => widthOf(line, SIZE)))) / 2) : 0;
   return {
     height: lines.length * LEADING + 10,
     markup: (x, y) => group({ class: 'notes' },

@@ -63,12 +63,14 @@ export const COMMANDS = {
     ],
   },
   draw: {
-    group: 'in class', files: 'TABLE', count: [1, 1], options: ['output', ...PICTURE, 'graphviz'],
+    group: 'in class', files: 'TABLE', count: [1, 1], options: ['output', 'show', ...PICTURE, 'graphviz'],
     module: () => import('./pictures.js'), writes: true,
-    says: 'the automaton (.svg .png .pdf .dot)',
-    more: ['.png and .pdf need the package librsvg2-bin, --graphviz needs graphviz.'],
+    says: 'the automaton, or the matrix of next states (.svg .png .pdf .dot)',
+    more: ['Where the arrows of the automaton would be a tangle, the matrix is drawn; --show says which of the two is wanted.',
+      '.png and .pdf need the package librsvg2-bin, --graphviz needs graphviz.'],
     examples: [
       ['krossvil draw classroom.kv -o classroom.svg', 'the two states and their arrows'],
+      ['krossvil draw gas-burner.kv --show matrix -o gas-burner.svg', 'a row for each state, a column for each input'],
       ['krossvil draw classroom.kv -o classroom.dot', 'for Graphviz'],
     ],
   },

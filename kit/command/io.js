@@ -4,6 +4,7 @@ import { closeSync, openSync, readSync, writeFileSync, writeSync } from 'node:fs
 import { createRequire } from 'node:module';
 import { isatty } from 'node:tty';
 import { getSystemErrorMessage } from './system-errors.js';
+import { whyFailed } from './tool-failure.js';
 import { Trouble } from './trouble.js';
 
 /**
@@ -118,7 +119,7 @@ function convert(tool, args, input) {
   const done = spawnSync(tool, args, { input, maxBuffer: 1 << 28 });
   const missing = /** @type {any} */ (done.error)?.code === 'ENOENT';
   if (missing) return null;
-  if (done.error || done.status !== 0) throw new Trouble(`${tool} failed: ${String(done.error ?? done.stderr).split('\n')[0]}`);
+  if (done.error || done.status !== 0) throw new Trouble(`${tool} failed: ${whyFailed(tool, done)}`);
   return done.stdout;
 }
 

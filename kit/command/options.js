@@ -15,6 +15,7 @@ export const OPTIONS = {
   dark: { type: 'boolean', says: 'light on dark' },
   begin: { type: 'string', value: 'TIME', says: 'the picture begins at this time' },
   until: { type: 'string', value: 'TIME', says: 'the picture goes up to this time' },
+  show: { type: 'string', value: 'WHAT', says: 'automaton or matrix; the one that is easier to read if left out' },
   graphviz: { type: 'boolean', says: 'let Graphviz place the states' },
   from: { type: 'string', value: 'STATES', says: 'names with commas between; all states if left out' },
   while: { type: 'string', value: 'INPUTS', says: 'names with commas between; all inputs if left out' },

@@ -1,10 +1,12 @@
-/** `picture`: the timing diagram. `draw`: the automaton. `wave`: a dump for GTKWave. */
+/** `picture`: the timing diagram. `draw`: the automaton, or the matrix of next states. `wave`: a dump for GTKWave. */
 
 import { basename } from 'node:path';
-import { automaton, automatonDot } from '../automaton.js';
+import { automatonDot } from '../automaton.js';
 import { diagram } from '../diagram.js';
 import { MEANINGS, explainJournal, narrate } from '../explain.js';
 import { decodeTable } from '../fields.js';
+import { didYouMean } from '../notation/mistakes.js';
+import { SHOWN, tablePicture } from '../table-picture.js';
 import { gtkw, vcd } from '../vcd.js';
 import { ACCEPTED, REFUSED } from './asking.js';
 import { tableRefused } from './check.js';
@@ -83,18 +85,32 @@ function drawByGraphviz(asking, table) {
 }
 
 /**
+ * What `draw` is asked to show; Graphviz has only the automaton.
+ * @param {Asking} asking @param {boolean} asGraph
+ * @returns {import('../table-picture.js').Shown|undefined}
+ */
+function shownBy({ options: { show } }, asGraph) {
+  if (show === undefined) return undefined;
+  if (!SHOWN.includes(show)) throw new Trouble(`--show takes ${SHOWN.join(' or ')}, not '${show}'${didYouMean(show, SHOWN)}`);
+  if (asGraph && show === 'matrix') throw new Trouble('Graphviz draws the automaton only: leave --show matrix out, or write .svg, .png or .pdf without it');
+  return show;
+}
+
+/**
  * @param {Asking} asking
  */
 export function draw(asking) {
   refuseMixing(asking);
   const width = numberOf(asking, 'width', 20000);
+  const isDot = endingOf(asking, 'svg') === 'dot';
+  const show = shownBy(asking, isDot || asking.options.graphviz === true);
   const source = asking.table();
   if (tableRefused(asking, source)) return REFUSED;
   const table = /** @type {Table} */ (decodeTable(source.bytes, source.names));
   const title = titleOf(asking, source.file);
-  if (endingOf(asking, 'svg') === 'dot') put(asking, automatonDot(table));
+  if (isDot) put(asking, automatonDot(table));
   else if (asking.options.graphviz) drawByGraphviz(asking, table);
-  else putPicture(asking, automaton(table, { title, width, theme: themeOf(asking) }));
+  else putPicture(asking, tablePicture(table, { show, title, width, slide: true, theme: themeOf(asking) }));
   return said(asking, source.file);
 }
 

@@ -3,6 +3,7 @@
 import { COMMANDS } from '../command/commands.js';
 import { EXITS, FILES, GROUPS, optionWords, optionsOf, usage } from '../command/help.js';
 import { COMMON, OPTIONS } from '../command/options.js';
+import { SHOWN } from '../table-picture.js';
 
 /** As text of a manual page: backslashes, hyphens and a dot or an apostrophe that begins a line. */
 const roff = (/** @type {string} */ text) => text.replaceAll('\\', '\\e').replaceAll('-', '\\-').replace(/^([.'])/gm, '\\&$1');
@@ -46,10 +47,10 @@ export function completion() {
     `        mapfile -t COMPREPLY < <(compgen -W '${Object.keys(COMMANDS).join(' ')} help' -- "$word")`,
     '        return',
     '    fi',
-    '    if [ "$before" = --as ]; then',
-    `        mapfile -t COMPREPLY < <(compgen -W 'table journal short stamped stimulus' -- "$word")`,
-    '        return',
-    '    fi',
+    '    case $before in',
+    `    --as) mapfile -t COMPREPLY < <(compgen -W 'table journal short stamped stimulus' -- "$word"); return ;;`,
+    `    --show) mapfile -t COMPREPLY < <(compgen -W '${SHOWN.join(' ')}' -- "$word"); return ;;`,
+    '    esac',
     '    case ${COMP_WORDS[1]} in',
     `    help) mapfile -t COMPREPLY < <(compgen -W '${Object.keys(COMMANDS).join(' ')}' -- "$word"); return ;;`,
     ...Object.keys(COMMANDS).map((name) => `    ${name}) options='${options(name)}' ;;`),

@@ -1,6 +1,6 @@
 import assert from 'node:assert/strict';
 import { execFileSync, spawnSync } from 'node:child_process';
-import { existsSync, mkdtempSync, readFileSync, rmSync, symlinkSync } from 'node:fs';
+import { chmodSync, existsSync, mkdtempSync, readFileSync, rmSync, symlinkSync, writeFileSync } from 'node:fs';
 import { tmpdir } from 'node:os';
 import { join } from 'node:path';
 import { after, test } from 'node:test';
@@ -62,6 +62,41 @@ test('pictures as PNG and PDF', { skip: which('rsvg-convert') === '' && 'rsvg-co
   assert.equal(png.subarray(1, 4).toString(), 'PNG');
   assert.equal(png.readUInt32BE(16), 2560);
   assert.equal(made('quarry.pdf').subarray(0, 5).toString(), '%PDF-');
+});
+
+/** A text of a table of 32 states and 32 inputs that lead anywhere. */
+function denseText() {
+  const all = Array.from({ length: 32 }, (_, k) => k);
+  const arrows = (q) => all.map((input) => `i${input} -> q${(7 * q * input + 5 * input + q) % 32}`).join('\n');
+  const states = all.map((q) => `state q${q}\noutput o\n${arrows(q)}`).join('\n');
+  return `krossvil table\ncycle 3\ninputs ${all.map((k) => `i${k}`).join(', ')}\noutputs o\nstart q0\n${states}\n`;
+}
+
+test('Graphviz draws a dense table of 32 by 32 in little time, no larger than two slides', { skip: which('dot') === '' && 'dot is not here' }, () => {
+  const made = join(folder, 'dense.png');
+  writeFileSync(join(folder, 'dense.kv'), denseText());
+  const done = spawnSync('bash', ['-c', `TIMEFORMAT=%U; time "${COMMAND}" draw "${join(folder, 'dense.kv')}" --graphviz -o "${made}"`],
+    { encoding: 'utf8', timeout: 300000 });
+  assert.match(done.stderr, /^[0-9.]+\n$/);
+  assert.ok(Number(done.stderr) < 15, `${done.stderr} s of the processor`);
+  const [width, height] = [16, 20].map((at) => readFileSync(made).readUInt32BE(at));
+  assert.ok(width > 1500 && width <= 3841 && height > 800 && height <= 2161, `${width} ${height}`);
+});
+
+test('why Graphviz failed is said in one sentence, and not what it warned of before', () => {
+  const path = pathOf('dot', [...SHELL, 'node', 'kill']);
+  const says = (script) => {
+    writeFileSync(join(path.PATH, 'dot'), `#!/bin/sh\ncat > /dev/null\n${script}\n`);
+    chmodSync(join(path.PATH, 'dot'), 0o755);
+    const { code, err } = spawn(['draw', 'classroom.kv', '--graphviz', '-o', join(folder, 'b.png')], { env: { PATH: `${path.PATH}:/usr/bin:/bin` } });
+    assert.equal(code, 2);
+    return err;
+  };
+  const warns = "echo 'dot: graph is too large for cairo-renderer bitmaps. Scaling by 0.75 to fit' >&2";
+  assert.equal(says(`${warns}; echo 'dot: failure to create cairo surface: out of memory' >&2; exit 1`),
+    'krossvil: dot failed: failure to create cairo surface: out of memory\n');
+  assert.equal(says(`${warns}; kill -KILL $$`), 'krossvil: dot failed: it was stopped by SIGKILL, as happens where memory runs out\n');
+  assert.equal(says(`${warns}; exit 3`), 'krossvil: dot failed: it ended with 3 and did not say why\n');
 });
 
 test('the pictures that stand in the repository are those that the command makes', () => {

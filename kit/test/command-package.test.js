@@ -1,4 +1,5 @@
 import assert from 'node:assert/strict';
+import { spawnSync } from 'node:child_process';
 import { existsSync, readFileSync } from 'node:fs';
 import { test } from 'node:test';
 import { COMMANDS } from '../command/commands.js';
@@ -28,6 +29,9 @@ test('the completion has every command with its options', () => {
     const [, words] = new RegExp(`^    ${name}\\) options='([^']*)'`, 'm').exec(script);
     for (const option of [...options, 'json', 'plain', 'names', 'help']) assert.ok(words.split(' ').includes(`--${option}`), `${name} ${option}`);
   }
+  const words = ['krossvil', 'draw', 'classroom.kv', '--show', 'm'];
+  const completed = `COMP_WORDS=(${words.join(' ')}); COMP_CWORD=4; _krossvil; echo "\${COMPREPLY[*]}"`;
+  assert.equal(spawnSync('bash', ['-c', `${script}\n${completed}`], { encoding: 'utf8' }).stdout, 'matrix\n');
 });
 
 const EMPTY = '<p>a</p><script type="application/json" id="data">'

@@ -212,6 +212,8 @@ test('pictures and dumps: each ending, and which package is missing', async () =
   assert.deepEqual([graphviz.code, graphviz.err],
     [2, 'krossvil: the package graphviz is missing: apt-get install graphviz; or leave --graphviz out\n']);
   assert.match((await ask(['draw', 'classroom.kv', '-o', 'made.dot'], FILES)).files['made.dot'], /^digraph/);
+  const shownAs = async (...options) => /class="krossvil-(\w+)"/.exec((await ask(['draw', 'classroom.kv', ...options], FILES)).out)[1];
+  assert.deepEqual([await shownAs(), await shownAs('--show', 'automaton'), await shownAs('--show', 'matrix')], ['automaton', 'automaton', 'matrix']);
   assert.match((await ask(['wave', 'quarry.kv', '--unit', '10 ms'], FILES)).out, /\$timescale 10 ms \$end/);
   assert.equal((await ask(['wave', 'quarry.kv', '--unit', 'week'], FILES)).code, 2);
   const shown = await ask(['wave', 'quarry.kv', '-o', 'made/a b.gtkw'], FILES);
@@ -248,6 +250,8 @@ test('what could not be asked ends with 2 and says why', async () => {
     ['check table.bin journal.bin --as jurnal', /did you mean 'journal'\?/], ['run classroom.kv --as table', /Unknown option/],
     ['check table.bin journal.bin --as table', /here journal, stamped, short can be meant/], ['toString x', /there is no command/],
     ['picture quarry.kv --begin soon', /--begin takes a number/], ['picture quarry.kv --json', /with --json give -o FILE/],
+    ['draw classroom.kv --show matrx', /--show takes automaton or matrix, not 'matrx'; did you mean 'matrix'\?/],
+    ['draw classroom.kv --show matrix --graphviz', /Graphviz draws the automaton only: leave --show matrix out/],
     ['explain two.kv', /two\.kv: say which part is meant: --as journal, --as short/],
   ];
   const wrong = `${sample('classroom').split('\nkrossvil stimulus')[0]}`.replace('inputs ', 'inpits ');

@@ -78,8 +78,10 @@ test('inputs that are too many to name are all others where the rest is named, o
   assert.deepEqual(said(withOthers(2 ** 32 - 1)), ['all others', 'all others', 'i0, i1, i2', 'i0, i1, i2']);
   assert.deepEqual(said(withOthers(0xffff0001)), ['all others', 'all others/16 delayed', 'i0, i1, i2', 'i1, i2/i0']);
   assert.deepEqual(said(withOthers(0b11000)), ['all others', 'all others/i3, i4', 'i0, i1, i2', 'i0, i1, i2']);
-  const toFour = { ...withOthers(0), next: [0, 1].map(() => Array.from({ length: 32 }, (_, input) => input % 2)) };
-  assert.deepEqual(said(toFour), Array(4).fill('16 inputs'));
+  const halves = { ...withOthers(0), next: [0, 1].map(() => Array.from({ length: 32 }, (_, input) => input % 2)) };
+  assert.deepEqual(said(halves), Array(4).fill('16 inputs'));
+  const few = edgesOf({ ...withOthers(0), next: [Array.from({ length: 32 }, (_, input) => Math.max(0, Math.floor(input / 4) - 1))] });
+  assert.deepEqual(few.map(({ says }) => says.free).slice(0, 2), ['8 inputs', 'i8, i9, i10, i11']);
   const alone = { ...withOthers(0xffff0000), next: [Array(32).fill(1), Array(32).fill(0)] };
   assert.deepEqual(said(alone), ['every input', 'every input/16 delayed']);
   assert.match(automatonDot(withOthers(0)), /s0 -> s0 \[label="all others", tooltip="i3, i4, .*, i31"\];/);
