@@ -1,21 +1,18 @@
 /**
- * Where the time went: a bar for each state, with its slots by input, as SVG.
+ * Where the time went: a bar for each state, with its slots by input, as SVG. Of many inputs it is a matrix.
  */
+import { dwellMatrix } from './dwell-matrix.js';
+import { counted, largest, share, usedInputs } from './dwell-numbers.js';
 import { element, group, picture, rect, text } from './svg.js';
 import { fit, widthOf, wrap } from './text-width.js';
 import { nameOf } from './name-of.js';
-import { inTurn, THEMES } from './theme.js';
+import { THEMES } from './theme.js';
+
+export { reportOf } from './dwell-numbers.js';
 
 /** @typedef {import('./types.js').Names} Names */
 
-/**
- * The numbers of a report, as the library gives them.
- * @typedef {Object} Report
- * @property {bigint} journals
- * @property {bigint[]} dwell      of each state
- * @property {bigint[][]} pairs    rows by state
- * @property {bigint[]} entries    into each state
- */
+/** @typedef {import('./dwell-numbers.js').Report} Report */
 
 /**
  * @typedef {Object} Options
@@ -24,33 +21,8 @@ import { inTurn, THEMES } from './theme.js';
  * @property {'light'|'dark'} [theme]
  */
 
-/**
- * The numbers that krossvil_report_add adds to, taken apart.
- * @param {ArrayLike<bigint>} numbers @param {{states: number, inputs: number}} counts
- * @returns {Report}
- */
-export function reportOf(numbers, { states, inputs }) {
-  const all = Array.from(numbers);
-  const pairs = all.slice(1 + states, 1 + states + states * inputs);
-  return {
-    journals: all[0],
-    dwell: all.slice(1, 1 + states),
-    pairs: Array.from({ length: states }, (_, state) => pairs.slice(state * inputs, (state + 1) * inputs)),
-    entries: all.slice(1 + states + states * inputs, 1 + 2 * states + states * inputs),
-  };
-}
-
-/** @param {bigint} number */
-const grouped = (number) => String(number).replace(/\B(?=(\d{3})+$)/g, ',');
-
-/** @param {bigint} number @param {string} one @param {string} many */
-const counted = (number, one, many) => `${grouped(number)} ${number === 1n ? one : many}`;
-
-/**
- * How much a number is of another, from 0 to 1.
- * @param {bigint} part @param {bigint} whole
- */
-const share = (part, whole) => (whole === 0n ? 0 : Number(part * 1000000n / whole) / 1000000);
+/** More inputs have no colours that can be told apart. */
+const MOST_COLOURS = 8;
 
 /**
  * @typedef {Object} Plan
@@ -62,6 +34,7 @@ const share = (part, whole) => (whole === 0n ? 0 : Number(part * 1000000n / whol
  * @property {number} left        where bars begin
  * @property {number} room        of the longest bar
  * @property {bigint} longest
+ * @property {(input: number) => string} colourOf   that of the other pictures where it can be told from all others
  */
 
 /**
@@ -75,8 +48,10 @@ function planOf(report, names, options) {
   const numbers = Math.max(...report.dwell.map((_, state) => widthOf(numbersOf(report, state), 13)));
   const left = narrow ? 12 : Math.min(widest, width / 4) + 36;
   const room = width - left - (narrow ? 12 : numbers + 36);
-  const longest = report.dwell.reduce((a, b) => (a > b ? a : b), 0n);
-  return { report, names, theme: THEMES[options.theme ?? 'light'] ?? THEMES.light, width, narrow, left, room, longest };
+  const theme = THEMES[options.theme ?? 'light'] ?? THEMES.light;
+  const used = usedInputs(report);
+  const colourOf = (/** @type {number} */ input) => theme.inputs[names.inputs.length > MOST_COLOURS ? used.indexOf(input) : input];
+  return { report, names, theme, width, narrow, left, room, longest: largest(report.dwell), colourOf };
 }
 
 /**
@@ -91,6 +66,7 @@ function numbersOf({ dwell, entries }, state) {
  * @returns {string}   an SVG file
  */
 export function dwellPlot(report, names, options = {}) {
+  if (usedInputs(report).length > MOST_COLOURS) return dwellMatrix(report, names, options);
   const plan = planOf(report, names, options);
   const { theme, width, narrow } = plan;
   const title = options.title || 'Where the time went';
@@ -125,10 +101,10 @@ function row(plan, state, y) {
 }
 
 /**
- * A state's slots, input after input.
+ * A state's slots, input after input. A name that has no room stands below, with its colour.
  * @param {Plan} plan @param {number} state @param {{y: number, height: number}} bar
  */
-function bars({ report, names, theme, left, room, longest }, state, { y, height }) {
+function bars({ report, names, theme, left, room, longest, colourOf }, state, { y, height }) {
   let before = 0n;
   return report.pairs[state].map((slots, input) => {
     const [a, b] = [left + share(before, longest) * room, left + share(before + slots, longest) * room];
@@ -136,9 +112,10 @@ function bars({ report, names, theme, left, room, longest }, state, { y, height 
     if (slots === 0n) return null;
     const name = nameOf(names.inputs, input);
     return [
-      element('rect', { x: a, y, width: Math.max(b - a, 0.5), height, fill: inTurn(theme.inputs, input), stroke: theme.border, 'stroke-width': 0.8 },
+      element('rect', { x: a, y, width: Math.max(b - a, 0.5), height, fill: colourOf(input), stroke: theme.border, 'stroke-width': 0.8 },
         element('title', {}, `${nameOf(names.states, state)}, ${name}: ${counted(slots, 'slot', 'slots')}`)),
-      text((a + b) / 2, y + height / 2 + 4.5, fit(name, b - a - 8, 12.5), { size: 12.5, fill: theme.ink, anchor: 'middle' }),
+      widthOf(name, 12.5) > b - a - 8 ? null
+        : text((a + b) / 2, y + height / 2 + 4.5, name, { size: 12.5, fill: theme.ink, anchor: 'middle' }),
     ];
   });
 }
@@ -147,17 +124,17 @@ function bars({ report, names, theme, left, room, longest }, state, { y, height 
  * The inputs that have slots.
  * @param {Plan} plan @param {number} y
  */
-function legend({ report, names, theme, width }, y) {
-  const used = names.inputs.map((_, input) => input).filter((input) => report.pairs.some((slots) => slots[input] > 0n));
+function legend({ report, names, theme, width, colourOf }, y) {
+  const used = usedInputs(report);
   let [x, line] = [12, 0];
   const markup = used.map((input) => {
-    const name = fit(names.inputs[input], width - 60, 12.5);
+    const name = fit(nameOf(names.inputs, input), width - 60, 12.5);
     const wide = 28 + widthOf(name, 12.5) + 18;
     if (x + wide > width && x > 12) [x, line] = [12, line + 1];
     const at = x;
     x += wide;
     return [
-      rect(at, y + 22 * line, 20, 14, { fill: inTurn(theme.inputs, input), stroke: theme.border, 'stroke-width': 0.8 }),
+      rect(at, y + 22 * line, 20, 14, { fill: colourOf(input), stroke: theme.border, 'stroke-width': 0.8 }),
       text(at + 27, y + 22 * line + 11.5, name, { size: 12.5, fill: theme.quiet }),
     ];
   });

@@ -189,6 +189,47 @@ test('the plot has a bar for each state and input that has slots, as long as the
   }
 });
 
+/** A report in which each state has its own slots under so many inputs. */
+function reportFor(states, inputs) {
+  const pairs = Array.from({ length: states }, (_, q) => Array.from({ length: inputs }, (__, i) => BigInt((q * 37 + i * 101) % 13 * 1234)));
+  const dwell = pairs.map((row) => row.reduce((a, b) => a + b, 0n));
+  return { journals: 3n, dwell, pairs, entries: dwell.map((_, q) => BigInt(q)) };
+}
+const namesFor = (states, inputs, word) => ({
+  states: Array.from({ length: states }, (_, k) => `${word}_station_${k}`), inputs: Array.from({ length: inputs }, (_, k) => `${word}_sensor_${k}`),
+  outputs: [], timers: [],
+});
+const texts = (root) => all(root).filter(({ name }) => name === 'text').map(({ text }) => text);
+
+test('with up to 32 inputs the plot names each in full and has every number; no two inputs are told apart by colour alone', () => {
+  for (const [states, inputs] of [[32, 32], [2, 9], [4, 20]]) {
+    const [report, names] = [reportFor(states, inputs), namesFor(states, inputs, 'conveyor')];
+    for (const theme of ['light', 'dark']) {
+      const root = readXml(dwellPlot(report, names, { theme }));
+      assert.ok(Number(root.attributes.width) <= 1920 && Number(root.attributes.height) <= 1080);
+      const said = texts(root);
+      assert.deepEqual([...names.inputs, ...names.states].filter((name) => !said.includes(name)), []);
+      assert.deepEqual(said.filter((words) => words.includes('…')), []);
+      const cells = ofClass(root, 'slots');
+      const number = (slots) => Number(slots).toLocaleString('en');
+      const shown = cells.map(({ attributes, children }) => [attributes['data-state'], attributes['data-input'], children.at(-1).text].join(' '));
+      const wanted = report.pairs.flatMap((row, q) => row.flatMap((slots, i) => (slots > 0n ? [`${q} ${i} ${number(slots)}`] : [])));
+      assert.deepEqual(shown, wanted);
+      const tints = new Map(cells.map(({ children }) => [children.at(-1).text, children.find(({ name }) => name === 'rect').attributes]));
+      assert.equal(new Set([...tints.values()].map(({ fill }) => fill)).size, 1);
+      const byNumber = [...tints].sort(([a], [b]) => parseInt(a.replaceAll(',', ''), 10) - parseInt(b.replaceAll(',', ''), 10));
+      assert.ok(byNumber.every(([, tint], k) => k === 0 || Number(tint['fill-opacity']) > Number(byNumber[k - 1][1]['fill-opacity'])));
+      for (const [q, row] of ofClass(root, 'dwell').entries()) {
+        assert.deepEqual(texts(row).slice(0, 3), [names.states[q], number(report.dwell[q]), String(q)]);
+      }
+    }
+  }
+  assert.deepEqual(texts(readXml(dwellPlot(reportFor(8, 8), namesFor(8, 8, 'a_long_name')))).filter((words) => words.includes('…')), []);
+  const few = { ...reportFor(1, 32), pairs: [Array.from({ length: 32 }, (_, i) => (i % 8 === 0 ? 5n : 0n))] };
+  const fills = ofClass(readXml(dwellPlot(few, namesFor(1, 32, 'a'))), 'legend')[0].children.filter(({ name }) => name === 'rect');
+  assert.deepEqual(fills.map(({ attributes }) => attributes.fill), LIGHT.inputs.slice(0, 4));
+});
+
 test("the classroom's run has the numbers of the rules", () => {
   const { table, tableBytes, journal } = traceOfSample('classroom');
   const numbers = new BigUint64Array(9);
