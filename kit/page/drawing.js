@@ -1,9 +1,9 @@
-/** The pictures: the timing diagram, the machine, the automaton with its state lit. */
+/** The pictures: the timing diagram, the machine, the automaton or its matrix with the state lit. */
 
-import { automaton } from '../automaton.js';
 import { diagram } from '../diagram.js';
 import { narrate } from '../explain.js';
 import { counted, thousands } from '../names.js';
+import { easierToRead, tablePicture } from '../table-picture.js';
 import { keepRoom } from './answer-room.js';
 import { byId, fill, inTwoColumns, show } from './dom.js';
 import { machineAt, showMachine } from './machine.js';
@@ -66,10 +66,10 @@ function placeAutomaton(page) {
   const slots = [byId('automaton-beside'), byId('automaton-below')];
   for (const slot of slots) slot.hidden = !decoded;
   if (!decoded) return;
-  slots[0].append(byId('automaton'));
+  slots[0].append(byId('automaton'), byId('show-as'));
   drawAutomaton(page, decoded);
   const k = fitsBeside(page) ? 0 : 1;
-  slots[k].append(byId('automaton'));
+  slots[k].append(byId('automaton'), byId('show-as'));
   slots[1 - k].hidden = true;
 }
 
@@ -110,7 +110,23 @@ export function drawStep(page) {
 function drawAutomaton(page, table) {
   const { scale, ...look } = lookOf(page, byId('automaton'));
   const lit = page.subject ? litAt(shownStep(page)) : { path: page.reaction.path };
-  show(byId('automaton'), automaton(table, { lit, ...look }), scale);
+  show(byId('automaton'), tablePicture(table, { show: page.show, lit, ...look }), scale);
+  fill(byId('show-as'), `Show the ${otherPicture(page, table)}`);
+}
+
+/** @param {Page} page @param {Table} table */
+const otherPicture = ({ show: shown }, table) => ((shown ?? easierToRead(table)) === 'matrix' ? 'automaton' : 'matrix');
+
+/**
+ * The automaton in the place of the matrix, or the other way round. The focus stays where it is, though the button may move.
+ * @param {Page} page
+ */
+export function showOther(page) {
+  const { decoded } = page.answers;
+  if (!decoded) return;
+  page.show = otherPicture(page, decoded);
+  draw(page);
+  byId('show-as').focus();
 }
 
 /**
@@ -125,7 +141,7 @@ export function drawWay(page) {
   if (!subject) drawAutomaton(page, decoded);
   else if (path.length > 0) {
     const { scale, ...look } = lookOf(page, byId('automaton'));
-    show(room, automaton(decoded, { title: 'The longest way', lit: { path }, ...look }), scale);
+    show(room, tablePicture(decoded, { show: page.show, title: 'The longest way', lit: { path }, ...look }), scale);
   }
 }
 

@@ -2,7 +2,7 @@
 
 import { copyLink, showLink } from './address.js';
 import { byId, closeMenu } from './dom.js';
-import { redraw } from './drawing.js';
+import { redraw, showOther } from './drawing.js';
 import { tooLong } from './limits.js';
 import { openExample, openFiles } from './opening.js';
 import { listSavings } from './saving.js';
@@ -32,6 +32,7 @@ function listenToButtons(page) {
   press('last', () => select(page, Infinity));
   press('whole', () => select(page, null));
   press('run', () => run(page));
+  press('show-as', () => showOther(page));
   press('undo', () => page.takeBack());
   press('open', () => byId('files').click());
   press('link', () => showLink(page));

@@ -52,6 +52,8 @@ export class Page {
     this.hash = '';
     /** @type {Map<string, any>} */
     this.waiting = new Map();
+    /** @type {import('../table-picture.js').Shown|null} the picture that the reader chose */
+    this.show = null;
     this.large = false;
     this.dark = false;
     this.editors = /** @type {Record<Pane, Editor>} */ (Object.fromEntries(PANES.map((pane) => [pane, this.#editor(pane)])));
@@ -126,6 +128,7 @@ export class Page {
     this.notice('');
     for (const each of PANES) this.editors[each].value = texts[each];
     this.step = { selected: null, stepping: false };
+    this.show = null;
     this.turnTo(pane);
     this.answer();
     if (this.answers.reading.mistakes.length > 0) emptyPictures();

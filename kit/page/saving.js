@@ -3,6 +3,7 @@
 import { automaton, automatonDot } from '../automaton.js';
 import { diagram } from '../diagram.js';
 import { MEANINGS } from '../explain.js';
+import { matrix } from '../matrix.js';
 import { vcd } from '../vcd.js';
 import { joinTexts } from './documents.js';
 import { byId, closeMenu, fill, make, save } from './dom.js';
@@ -63,6 +64,8 @@ const SAVINGS = [
   { label: 'Timing diagram, PNG', can: hasSubject, save: (state) => saveDots('krossvil-diagram.png', slide(state)) },
   { label: 'Automaton, SVG', can: hasTable,
     save: ({ answers, theme }) => answers.decoded && save('krossvil-automaton.svg', automaton(answers.decoded, { theme }), SVG) },
+  { label: 'Matrix of next states, SVG', can: hasTable,
+    save: ({ answers, theme }) => answers.decoded && save('krossvil-matrix.svg', matrix(answers.decoded, { theme }), SVG) },
   { label: 'Automaton, DOT', can: hasTable,
     save: ({ answers }) => answers.decoded && save('krossvil-automaton.dot', automatonDot(answers.decoded), 'text/plain') },
   { label: 'Waves, VCD', can: hasSubject, save: ({ subject }) => subject && save('krossvil.vcd', vcd(subject.trace), 'text/plain') },

@@ -6,6 +6,7 @@ import { tmpdir } from 'node:os';
 import { join } from 'node:path';
 import { test } from 'node:test';
 import { EXAMPLES } from '../examples.js';
+import { decodeTable, encodeTable } from '../fields.js';
 import { plainNames } from '../names.js';
 import { readText, recordsText, tableText } from '../notation.js';
 import { library, sample } from './core.js';
@@ -77,6 +78,33 @@ test('arrow keys step through the records and light the machine', async (t) => {
   assert.match(await tab.text('#where'), /^record 14 /);
   await tab.key('Escape');
   assert.equal(await tab.text('#where'), '16 records');
+});
+
+test('a dense table is a matrix in which the machine is lit, and the button below it shows the automaton', async (t) => {
+  const tab = await open(t, 'example=classroom');
+  const all = Array.from({ length: 12 }, (_, k) => k);
+  const table = {
+    ...decodeTable(readText(sample('classroom')).parts[0].bytes), counts: { states: 12, inputs: 12, outputs: 2 }, outputs: all.map((q) => q % 2),
+    next: all.map((q) => all.map((input) => (5 * q + 7 * input + q * input) % 12)), holds: all.map(() => 0), delayed: all.map(() => 0),
+    names: plainNames({ states: 12, inputs: 12, outputs: 2 }, 0),
+  };
+  await setPane(tab, 'table', tableText(encodeTable(table), table.names));
+  await setPane(tab, 'stimulus', '');
+  await setPane(tab, 'journal', 'krossvil journal\ninput i3\n1 poll i3\n1 test free\n2 tick q9\n2 end\n');
+  assert.match(await tab.text(VERDICT), /^accepted /);
+  await tab.value('document.activeElement.blur()');
+  for (let k = 0; k < 4; k++) await tab.key('ArrowRight');
+  const shown = () => tab.value(`[document.querySelector('#automaton svg').getAttribute('class'),
+    ...[...document.querySelectorAll('#automaton .lit')].map(({ dataset }) => dataset.state ?? dataset.from + '-' + dataset.to)]`);
+  assert.deepEqual(await shown(), ['krossvil-matrix', '0-9', '9']);
+  await tab.value("document.getElementById('show-as').focus()");
+  await tab.key('Enter');
+  assert.deepEqual(await shown(), ['krossvil-automaton', '0-9', '9']);
+  assert.deepEqual([await tab.text(':focus'), await tab.text('#where')], ['Show the matrix', 'record 3 of 4, byte 20']);
+  await choose(tab, 'gas-burner');
+  assert.deepEqual([(await shown())[0], await tab.text('#show-as')], ['krossvil-automaton', 'Show the matrix']);
+  await tab.click('#show-as');
+  assert.equal((await shown())[0], 'krossvil-matrix');
 });
 
 test('the caret and the diagram choose a record', async (t) => {
@@ -351,6 +379,7 @@ test('texts, bytes and pictures are saved', async (t) => {
   assert.deepEqual(again.parts.map(({ bytes }) => [...bytes]), parts.map(({ bytes }) => [...bytes]));
   assert.ok(/^<svg .*refused 28 at byte 76/s.test(String(await saved('Timing diagram, SVG', 'krossvil-diagram.svg'))));
   assert.match(String(await saved('Automaton, SVG', 'krossvil-automaton.svg')), /^<svg /);
+  assert.match(String(await saved('Matrix of next states, SVG', 'krossvil-matrix.svg')), /^<svg [^>]*class="krossvil-matrix"/);
   assert.match(String(await saved('Automaton, DOT', 'krossvil-automaton.dot')), /^digraph/);
   assert.match(String(await saved('Waves, VCD', 'krossvil.vcd')), /\$enddefinitions/);
   assert.equal((await saved('Timing diagram, PNG', 'krossvil-diagram.png')).subarray(1, 4).toString(), 'PNG');
