@@ -48,8 +48,7 @@ const NARROWEST = 240;
  */
 export function automaton(table, options = {}) {
   const names = options.names ?? table.names;
-  const wanted = options.width && Math.max(200, options.width);
-  const layout = remembered(table, names, options.slide || !wanted ? Infinity : wanted, options.loops ?? true);
+  const layout = remembered(table, names, options.slide ? Infinity : options.width ?? Infinity, options.loops ?? true);
   const theme = THEMES[options.theme ?? 'light'] ?? THEMES.light;
   /** @type {Scene} */
   const scene = { table, names, layout, theme, ...lights(table, options.lit ?? {}) };
@@ -58,7 +57,7 @@ export function automaton(table, options = {}) {
   const left = frame.x - (width - frame.width) / 2;
   const notes = notesOf(scene, width - 24);
   const height = frame.height + notes.height;
-  const scale = shrunk({ width, height }, wanted);
+  const scale = shrunk({ width, height }, options.width);
   const about = {
     width: width * scale, height: height * scale, title: options.title || 'Automaton', description: summary(table, names),
     className: 'krossvil-automaton', data: { viewBox: `${short(left)} ${short(frame.y)} ${short(width)} ${short(height)}` },

@@ -103,7 +103,7 @@ function cell(scene, state, { inputs, names: words, x, width }, y) {
   const about = { class: lit ? 'edge lit' : 'edge', 'data-from': state, 'data-to': to, 'data-inputs': inputs.join(' ') };
   return group(about, element('title', {}, title),
     delayMarks(scene, { x, y, width, height: ROW }, by),
-    lit ? rect(x, y, width, ROW, { fill: theme.litFill, stroke: theme.lit, 'stroke-width': 3 }) : null,
+    lit ? rect(x, y, width, ROW, { fill: by.length > 0 ? 'none' : theme.litFill, stroke: theme.lit, 'stroke-width': 3 }) : null,
     to === state ? circle(middle, y + ROW / 2, 2, { fill: theme.quiet })
       : text(middle, y + 17.5, plan.numbered ? String(to) : nameOf(names.states, to), { size: SIZE, fill: theme.ink, anchor: 'middle' }));
 }

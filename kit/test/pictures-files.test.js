@@ -9,6 +9,7 @@ import { diagram } from '../diagram.js';
 import { dwellPlot, reportOf } from '../dwell-plot.js';
 import { escapeXml, quoteDot, vcdWord, visible } from '../escape.js';
 import { encodeTable } from '../fields.js';
+import { matrix } from '../matrix.js';
 import { readText } from '../notation.js';
 import { DARK, LIGHT, inTurn } from '../theme.js';
 import { fit, widthOf, wrap } from '../text-width.js';
@@ -51,12 +52,18 @@ function contrast(one, other) {
   return (light + 0.05) / (dark + 0.05);
 }
 
+/** A colour over another, so much of it. */
+function mixed(over, paper, much) {
+  const part = (colour, k) => parseInt(colour.slice(k, k + 2), 16);
+  return `#${[1, 3, 5].map((k) => Math.round(much * part(over, k) + (1 - much) * part(paper, k)).toString(16).padStart(2, '0')).join('')}`;
+}
+
 test('words have a contrast of 4.5 at least, marks of 3', () => {
   for (const theme of [LIGHT, DARK]) {
     const many = (colours) => Array.from({ length: 32 }, (_, k) => inTurn(colours, k));
     const lanes = [...many(theme.inputs), ...many(theme.states), ...many(theme.outputs)];
     const words = [
-      [theme.ink, [theme.paper, theme.redPaper, theme.heldFill, theme.litFill, ...lanes]],
+      [theme.ink, [theme.paper, theme.redPaper, theme.heldFill, theme.litFill, theme.phases[2], mixed(theme.poll, theme.paper, 0.45), ...lanes]],
       [theme.quiet, [theme.paper, theme.redPaper, ...theme.phases]],
       [theme.poll, [theme.paper, ...theme.phases]],
       [theme.held, [theme.paper, theme.phases[0], theme.phases[1], theme.phases[2]]],
@@ -69,7 +76,8 @@ test('words have a contrast of 4.5 at least, marks of 3', () => {
     for (const [fill, paper] of pairs) assert.ok(contrast(fill, paper) >= 4.5, `${fill} on ${paper}: ${contrast(fill, paper)}`);
     const marks = [
       [theme.border, theme.paper], [theme.unread, theme.paper], [theme.lit, theme.phases[0]],
-      [theme.held, theme.freeFill], [theme.free, theme.freeFill],
+      [theme.held, theme.freeFill], [theme.free, theme.freeFill], [theme.poll, theme.paper],
+      ...[theme.held, theme.quiet, ...theme.timers].map((mark) => [mark, theme.phases[2]]),
     ];
     for (const [mark, paper] of marks) assert.ok(contrast(mark, paper) >= 3, `${mark} on ${paper}: ${contrast(mark, paper)}`);
   }
@@ -255,7 +263,8 @@ test('xmllint finds every kind of picture well-formed, where it is installed', (
   const pictures = [
     diagram(traceOfSample('quarry'), { title: 'Quarry', sentences: ['One.'] }), diagram(hostile, { title: HOSTILE.join(' ') }), diagram(long),
     diagram(long, { from: 0, to: long.answer.end, theme: 'dark' }), automaton(gas), automaton(withHostileNames(gas, 3)),
-    dwellPlot(reportOf(new BigUint64Array(21).fill(3n), gas.counts), withHostileNames(gas, 5).names),
+    dwellPlot(reportOf(new BigUint64Array(21).fill(3n), gas.counts), withHostileNames(gas, 5).names), matrix(withHostileNames(gas, 2)),
+    dwellPlot(reportFor(12, 12), withHostileNames({ names: namesFor(12, 12, '') }).names),
   ];
   const files = pictures.map((picture, k) => join(folder, `${k}.svg`));
   pictures.forEach((picture, k) => writeFileSync(files[k], picture));

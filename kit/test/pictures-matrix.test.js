@@ -64,6 +64,9 @@ test('what is lit is lit, and nothing else', () => {
   assert.deepEqual(lit({ edge: { from: 1, input: 1 } }), ['1-2']);
   assert.deepEqual(lit({ path: [1, 1, 2, 2, 3] }).sort(), ['1', '1-2', '2', '2-3', '3']);
   assert.deepEqual(lit({ path: [3] }), ['3']);
+  const [cell] = ofClass(readXml(matrix(gas, { lit: { edge: { from: 1, input: 1 } } })), 'lit');
+  assert.deepEqual(cell.children.map(({ name }) => name), ['title', 'rect', 'path', 'rect', 'text']);
+  assert.equal(cell.children[3].attributes.fill, 'none');
 });
 
 test('a matrix of 32 by 32 fits a slide, and its words can be read: none is cut, none is wider than its cell', () => {
@@ -92,6 +95,7 @@ test('any names, any width and both themes: the matrix is well-formed', () => {
     const table = withHostileNames(drawTable(new Chance(round)), round);
     const [width] = size(matrix(table, { title: HOSTILE[round], width: 400, theme: round % 2 ? 'dark' : 'light', lit: { state: 0, path: [0] } }));
     assert.ok(width <= 400);
+    for (const draw of [matrix, automaton]) assert.ok(size(draw(tableOf('classroom'), { width: 0 }))[0] > 150);
   }
 });
 
