@@ -16,7 +16,7 @@ export const OPTIONS = {
   begin: { type: 'string', value: 'TIME', says: 'the picture begins at this time' },
   until: { type: 'string', value: 'TIME', says: 'the picture goes up to this time' },
   show: { type: 'string', value: 'WHAT', says: 'automaton or matrix; the one that is easier to read if left out' },
-  graphviz: { type: 'boolean', says: 'let Graphviz place the states' },
+  graphviz: { type: 'boolean', says: 'let Graphviz place the states; where arrows are a tangle they stand on an oval' },
   from: { type: 'string', value: 'STATES', says: 'names with commas between; all states if left out' },
   while: { type: 'string', value: 'INPUTS', says: 'names with commas between; all inputs if left out' },
   moves: { type: 'string', value: 'N', says: 'over so many moves, at most 32, with the longest way' },

@@ -92,7 +92,7 @@ function drawByGraphviz(asking, table) {
 function shownBy({ options: { show } }, asGraph) {
   if (show === undefined) return undefined;
   if (!SHOWN.includes(show)) throw new Trouble(`--show takes ${SHOWN.join(' or ')}, not '${show}'${didYouMean(show, SHOWN)}`);
-  if (asGraph && show === 'matrix') throw new Trouble('Graphviz draws the automaton only: leave --show matrix out, or write .svg, .png or .pdf without it');
+  if (asGraph && show === 'matrix') throw new Trouble('Graphviz draws the automaton only: leave --show matrix out, or Graphviz');
   return show;
 }
 

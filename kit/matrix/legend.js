@@ -19,17 +19,21 @@ const MARK = 30;
  */
 function itemsOf(scene) {
   const { table, names, theme, plan } = scene;
-  const swatch = (/** @type {number[]} */ by) => (/** @type {number} */ x, /** @type {number} */ y) =>
-    [delayMarks(scene, { x, y: y - 9, width: 22, height: 18 }, by), rect(x, y - 9, 22, 18, { fill: 'none', stroke: theme.border, 'stroke-width': 0.8 })];
+  const swatch = (/** @type {number} */ x, /** @type {number} */ y, /** @type {number[]} */ by = []) => [
+    delayMarks(scene, { x, y: y - 9, width: 22, height: 18 }, by),
+    rect(x, y - 9, 22, 18, { fill: 'none', stroke: theme.border, 'stroke-width': 0.8 }),
+  ];
+  const inside = { size: SIZE, fill: theme.ink, anchor: /** @type {const} */ ('middle') };
   const used = new Set(table.next.flatMap((row, state) => row.flatMap((_, input) => delaying(table, state, input))));
   const delayed = [...used].sort().map((k) => ({
-    words: table.kind === 'holds' ? "delayed by the state's hold" : `delayed by timer ${nameOf(names.timers, k)}`, mark: swatch([k]),
+    words: table.kind === 'holds' ? "delayed by the state's hold" : `delayed by timer ${nameOf(names.timers, k)}`,
+    mark: (/** @type {number} */ x, /** @type {number} */ y) => swatch(x, y, [k]),
   }));
   return [
     { words: 'initial state', mark: (x, y) => startMark(scene, x + 24, y) },
-    { words: `next state${plan.numbered ? ', by its number' : ''}`, mark: (x, y) => [swatch([])(x, y), text(x + 11, y + 4.5, plan.numbered ? '1' : 'q',
-      { size: SIZE, fill: theme.ink, anchor: 'middle' })] },
-    { words: 'the state stays', mark: (x, y) => [swatch([])(x, y), circle(x + 11, y, 2, { fill: theme.quiet })] },
+    { words: `next state${plan.numbered ? ', by its number' : ''}`,
+      mark: (x, y) => [swatch(x, y), text(x + 11, y + 4.5, plan.numbered ? '1' : 'q', inside)] },
+    { words: 'the state stays', mark: (x, y) => [swatch(x, y), circle(x + 11, y, 2, { fill: theme.quiet })] },
     ...delayed,
   ];
 }

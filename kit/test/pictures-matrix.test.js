@@ -72,7 +72,8 @@ test('what is lit is lit, and nothing else', () => {
 test('a matrix of 32 by 32 fits a slide, and its words can be read: none is cut, none is wider than its cell', () => {
   for (const longer of ['', '_of_the_second_conveyor']) {
     const plain = random(32);
-    const names = { ...plain.names, inputs: plain.names.inputs.map((name) => name + longer), states: plain.names.states.map((name) => name + longer) };
+    const lengthened = (list) => list.map((name) => name + longer);
+    const names = { ...plain.names, inputs: lengthened(plain.names.inputs), states: lengthened(plain.names.states) };
     const svg = matrix(plain, { names });
     const root = readXml(svg);
     const [width, height] = size(svg);
