@@ -1,21 +1,19 @@
 /**
- * The page on paper: title, answer, diagram, automaton, and the texts in full. The library is asked once for all of it, so that nothing on
- * a sheet is of another text than the rest. The texts come last: a journal of 64 KB leaves the answer on the first sheet.
+ * The page on paper: title, answer, diagram, automaton, and the texts in full, all from the answer that the page has for its texts. The
+ * texts come last: a journal of 64 KB leaves the answer on the first sheet.
  */
 
-import { automaton } from '../automaton.js';
 import { diagram } from '../diagram.js';
-import { sayAnswer, subjectOf } from './answer.js';
-import { noTexts, splitText } from './documents.js';
+import { tablePicture } from '../table-picture.js';
+import { UNSAID } from './answer.js';
 import { byId, fill, make, show } from './dom.js';
 import { machineAt, saidAt } from './machine.js';
 import { placesOf } from './marks.js';
-import { PANES, PANE_NAMES, ask } from './workspace.js';
+import { PANES, PANE_NAMES } from './workspace.js';
 
 /** @typedef {import('./page.js').Page} Page */
 /** @typedef {import('./answer.js').Said} Said */
 /** @typedef {import('./workspace.js').Answers} Answers */
-/** @typedef {import('./workspace.js').Subject} Subject */
 /** @typedef {import('./workspace.js').Pane} Pane */
 /** @typedef {import('../types.js').Step} Step */
 
@@ -51,13 +49,13 @@ function figure(name, svg) {
 
 /**
  * The run, with the record that is looked at, and the automaton.
- * @param {Page} page @param {Answers} answers @param {Subject|null} subject @param {Step|null} step
+ * @param {Page} page @param {Step|null} step
  */
-function picturesOf({ title }, { decoded }, subject, step) {
+function picturesOf({ title, show: shown, subject, answers: { decoded } }, step) {
   const run = subject && Object.entries(WIDTHS).map(([way, width]) =>
     figure(`run ${way}`, diagram(subject.trace, { head: false, title, width, selected: step?.number ?? null, id: `paper-${way}` })));
   const lit = { state: step && machineAt(step)?.state };
-  return [...run ?? [], decoded && figure('automaton', automaton(decoded, { lit, width: WIDTHS.upright }))];
+  return [...run ?? [], decoded && figure('automaton', tablePicture(decoded, { show: shown, lit, width: WIDTHS.upright }))];
 }
 
 /** So many lines that belong together are not parted. */
@@ -96,24 +94,16 @@ function textOf(pane, text, answers, { spot }) {
 }
 
 /**
- * What was opened; of an example whose texts are others now it is said.
+ * Nothing of a sheet that was printed before is left, whatever fails here. Where the page says that nothing is answered, so does the sheet.
  * @param {Page} page
  */
-function titleOf({ title, samples, texts }) {
-  const sample = samples.find((each) => each.title === title);
-  const own = sample ? { ...noTexts(), ...splitText(sample.text) } : texts;
-  return PANES.every((pane) => own[pane] === texts[pane]) ? title : `${title}, edited`;
-}
-
-/** @param {Page} page */
 export function writePaper(page) {
-  const { library, texts, pane, step: { selected } } = page;
-  const answers = ask(library, texts);
-  const sound = answers.reading.mistakes.length === 0;
-  const subject = sound ? subjectOf(answers, pane) : null;
-  const said = sayAnswer(answers, subject);
+  const room = byId('paper');
+  room.textContent = 'Nothing is answered.';
+  const { answers, subject, said, texts, title, step: { selected } } = page;
+  if (said === UNSAID) return fill(room, make('h1', {}, title), make('p', {}, byId('answer').innerText));
   const step = subject?.trace.steps[selected ?? -1] ?? null;
-  fill(byId('paper'), make('h1', {}, titleOf(page)), answerOf(said, subject && step && saidAt(subject.trace, step)),
-    ...(sound ? picturesOf(page, answers, subject, step) : []),
+  fill(room, make('h1', {}, title), answerOf(said, subject && step && saidAt(subject.trace, step)),
+    ...(answers.reading.mistakes.length === 0 ? picturesOf(page, step) : []),
     make('div', { class: 'texts' }, PANES.map((each) => textOf(each, texts[each], answers, said))));
 }

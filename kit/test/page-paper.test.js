@@ -57,12 +57,12 @@ function axisOf(pages) {
 }
 
 test('a printed page has title, answer, diagram, automaton and the texts in full, and no control', async (t) => {
-  const tab = await open(t, 'example=changed-verdict');
+  const tab = await open(t, 'example=quarry');
   await tab.click('#dark');
   const said = plain(await tab.value("document.querySelector('#answer .sentences').textContent"));
   for (const sheet of SHEETS) {
     const { file, text, pages } = await printed(t, tab, sheet);
-    for (const words of ['The changed verdict', expected('changed-verdict'), said, 'The usual slip:', 'cycle at most 3']) {
+    for (const words of ["The quarry's fault", expected('quarry'), said, 'The usual slip:', 'cycle at most 3']) {
       assert.ok(text.includes(words), `${sheet.name}: ${words}`);
     }
     for (const pane of ['table', 'stimulus', 'journal']) {
@@ -81,16 +81,20 @@ test('a printed page has title, answer, diagram, automaton and the texts in full
 
 test('what is printed is of the texts that are there, and of nothing else', async (t) => {
   const tab = await open(t, 'example=changed-verdict');
-  assert.ok(!(await printed(t, tab)).text.includes('edited'));
+  assert.ok(!(await printed(t, tab)).text.includes(', changed'));
   await setPane(tab, 'journal', sample('quarry').split(/(?=^krossvil journal)/m)[1]);
   const { text } = await printed(t, tab);
   assert.ok(text.includes(expected('quarry')) && !text.includes(expected('changed-verdict')));
-  assert.ok(text.includes('The changed verdict, edited'), 'not the title of an example that is another');
+  assert.ok(text.includes('The changed verdict, changed'), 'not the title of an example that is another');
   await setPane(tab, 'journal', 'krossvil journal\ninput no_tarin\n');
   const wrong = await printed(t, tab);
   assert.match(wrong.text, /Journal, line 2: there is no input 'no_tarin'/);
   assert.ok(wrong.text.includes('input no_tarin'));
   assert.ok(!wrong.text.includes(expected('quarry')) && axisOf(wrong.pages).length === 0, 'no picture of another text');
+  await setPane(tab, 'journal', `krossvil journal\ninput train\n${'1 poll train\n'.repeat(130000)}`);
+  const long = await printed(t, tab);
+  assert.match(long.text, /Nothing is answered/);
+  assert.ok(long.pages.length === 1 && !long.text.includes('input train'), 'a text that was not read is not printed beside an answer');
 });
 
 test('a table alone, and a journal of 64 KB, are printed in full', async (t) => {
