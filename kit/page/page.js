@@ -1,7 +1,7 @@
 /** The page itself: its three texts, the library's answer about them, and which record is looked at. */
 
 import { carry } from './address.js';
-import { sayAnswer, showAnswer, subjectOf } from './answer.js';
+import { UNSAID, sayAnswer, showAnswer, subjectOf } from './answer.js';
 import { keepRoom } from './answer-room.js';
 import { byId, fill, inTwoColumns } from './dom.js';
 import { draw, drawWay } from './drawing.js';
@@ -215,6 +215,7 @@ export class Page {
   /** The answer; or, where one goes through the records, a sentence about the one that is looked at. */
   say() {
     const { subject, said, step: { selected } } = this;
+    if (said === UNSAID) return;
     const step = subject && selected !== null ? subject.trace.steps[selected] : null;
     const about = step && subject ? saidAt(subject.trace, step) : null;
     fill(byId('step-short'), step ? about?.says ?? said.sentences.join(' ') : '');

@@ -4,6 +4,7 @@
  */
 
 import { diagram } from '../diagram.js';
+import { say } from '../names.js';
 import { tablePicture } from '../table-picture.js';
 import { UNSAID } from './answer.js';
 import { byId, fill, make, show } from './dom.js';
@@ -21,8 +22,9 @@ import { PANES, PANE_NAMES } from './workspace.js';
 const WIDTHS = { upright: 720, across: 1040 };
 /** An automaton that is no higher stays on the sheet of the run, a little smaller if need be. */
 const LOW = 440;
-/** A text of more lines is set smaller, in more columns. */
+/** A text of more lines is set smaller, in more columns; one of more than so many, which no accepted journal needs, is not printed. */
 const LONG = 400;
+const LINES_MOST = 20000;
 
 /**
  * @param {Said} said
@@ -85,12 +87,14 @@ function textOf(pane, text, answers, { spot }) {
   const places = pane === 'table' ? null : placesOf(answers, pane);
   const wrong = new Set([...answers.reading.mistakes, ...(spot ? [spot] : [])].filter((each) => each.pane === pane).map(({ line }) => line));
   const lines = text.trimEnd().split('\n');
+  const head = make('h2', {}, PANE_NAMES[pane]);
+  if (lines.length > LINES_MOST) return make('section', {}, head, make('p', {}, say`It has ${lines.length} lines, and is not printed.`));
   const place = (/** @type {number} */ number) => (places ? ` ${(places.get(number) ?? '').padStart(5)}` : '');
   const rows = lines.map((line, k) => make('div', {
     class: wrong.has(k + 1) ? 'numbered wrong' : 'numbered', 'data-at': `${String(k + 1).padStart(4)}${place(k + 1)}  `,
   }, line));
   const kind = `${places ? 'with-places' : ''} ${lines.length > LONG ? 'long' : ''}`;
-  return make('section', { class: kind }, make('h2', {}, PANE_NAMES[pane]), stanzas(rows));
+  return make('section', { class: kind }, head, stanzas(rows));
 }
 
 /**

@@ -91,10 +91,12 @@ test('what is printed is of the texts that are there, and of nothing else', asyn
   assert.match(wrong.text, /Journal, line 2: there is no input 'no_tarin'/);
   assert.ok(wrong.text.includes('input no_tarin'));
   assert.ok(!wrong.text.includes(expected('quarry')) && axisOf(wrong.pages).length === 0, 'no picture of another text');
-  await setPane(tab, 'journal', `krossvil journal\ninput train\n${'1 poll train\n'.repeat(130000)}`);
-  const long = await printed(t, tab);
-  assert.match(long.text, /Nothing is answered/);
-  assert.ok(long.pages.length === 1 && !long.text.includes('input train'), 'a text that was not read is not printed beside an answer');
+  for (const [lines, says] of [[130000, /It has 130,002 lines, and is not printed/], [200000, /Nothing is answered/]]) {
+    await setPane(tab, 'journal', `krossvil journal\ninput train\n${'1 poll train\n'.repeat(lines)}`);
+    const long = await printed(t, tab);
+    assert.match(long.text, says);
+    assert.ok(long.pages.length <= 2 && !long.text.includes(expected('quarry')), `${long.pages.length} pages`);
+  }
 });
 
 test('a table alone, and a journal of 64 KB, are printed in full', async (t) => {
