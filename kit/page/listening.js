@@ -69,7 +69,9 @@ function listenToTabs(page) {
       if (!by) return;
       event.preventDefault();
       event.stopPropagation();
-      page.look(PANES[(k + by) % PANES.length]);
+      const other = PANES[(k + by) % PANES.length];
+      page.look(other);
+      byId(`tab-${other}`).focus();
     });
   }
 }

@@ -160,7 +160,6 @@ export class Page {
   /** @param {Pane} pane */
   look(pane) {
     this.turnTo(pane);
-    byId(`tab-${pane}`).focus({ preventScroll: true });
     this.step = { selected: null, stepping: false };
     this.answer();
   }
@@ -201,6 +200,12 @@ export class Page {
     return this.#held.drop();
   }
 
+  /** The button that asks again goes; the focus does not go with it. */
+  #again() {
+    this.answer();
+    byId(`tab-${this.pane}`).focus({ preventScroll: true });
+  }
+
   /**
    * Nothing is answered, and nothing of an answer is left on the page.
    * @param {string[]} sentences  why @param {boolean} [again]  can the texts that are there be asked about?
@@ -209,7 +214,7 @@ export class Page {
     this.#forget();
     this.step = { selected: null, stepping: false };
     for (const pane of PANES) this.editors[pane].bare();
-    showNothing(sentences, again ? () => this.look(this.pane) : null);
+    showNothing(sentences, again ? () => this.#again() : null);
   }
 
   /** The answer; or, where one goes through the records, a sentence about the one that is looked at. */

@@ -28,8 +28,10 @@ test('bytes around the limits are answered by the library, and much longer ones 
     await assertRefused(tab, before, limit);
   }
   assert.ok(await tab.value('window.read') <= 5000);
-  await tab.click('#again');
+  await tab.value("document.getElementById('again').focus()");
+  await tab.key('Enter');
   assert.equal(await tab.text(VERDICT), expected('classroom'));
+  assert.equal(await tab.value('document.activeElement.id'), 'tab-journal');
   assert.ok(await pictures(tab) > 0);
 });
 
