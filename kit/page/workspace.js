@@ -89,7 +89,7 @@ export function readPanes(texts) {
   const all = blocks.flat();
   const text = readText(all.join('\n'));
   const place = (/** @type {number} */ line) => {
-    const k = Math.max(0, starts.filter((start) => start < line).length - 1);
+    const k = line > starts[2] ? 2 : line > starts[1] ? 1 : 0;
     return { pane: PANES[k], line: line - starts[k] };
   };
   const said = headless.length > 0 && text.parts.length === 0 && all.every((line) => line.trim() === '') ? [] : text.mistakes;

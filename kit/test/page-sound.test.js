@@ -89,7 +89,8 @@ test('in the place of a link that cannot be read nothing is answered', async (t)
 test('no picture has the name of other texts than its own', async (t) => {
   const tab = await open(t, 'example=classroom');
   const titleOf = (name) => EXAMPLES.find((each) => each.name === name).title;
-  const names = async () => [await tab.text('#diagram svg title'), await tab.value("document.getElementById('examples').value"), await tab.text('#notice')];
+  const chosen = () => tab.value("document.getElementById('examples').value");
+  const names = async () => [await tab.text('#diagram svg title'), await chosen(), await tab.text('#notice')];
   await choose(tab, 'changed-verdict');
   assert.deepEqual((await names()).slice(0, 2), [titleOf('changed-verdict'), 'changed-verdict']);
   await tab.click('#undo');
