@@ -112,8 +112,8 @@ export function dwell(asking) {
   const files = asking.files.slice(1);
   const codes = files.length > 0 ? eachJournal(asking, source, files, act) : named(asking.all(source, JOURNALS, undefined)).map(act);
   const report = reportOf(numbers, table.counts);
-  sayReport(asking, table, report);
   const { output, title } = asking.options;
   if (output !== undefined) putPicture(asking, dwellPlot(report, table.names, { title, width, theme: themeOf(asking) }));
+  sayReport(asking, table, report);
   return worstOf(codes);
 }

@@ -12,7 +12,8 @@ export const GROUPS = /** @type {const} */ (['in class', 'in the yard', 'at the 
 export const FILES = [
   'A FILE is bytes, or a text that begins with the word krossvil; - is the standard input. A text may hold a table and its journal and '
     + 'stimulus together: then it is named once. Names come from the table\'s text, or from --names TEXT.',
-  '-o FILE writes to FILE, and its ending says the form. --json gives one object on one line for each answer, --plain no sentences.',
+  '-o FILE writes to FILE, and its ending says the form. FILE is none of those that are read, and an old one is replaced once all is written. '
+    + '--json gives one object on one line for each answer, --plain no sentences.',
 ];
 
 const MADE = 'table.bin is made with: krossvil bytes classroom.kv --as table -o table.bin; journal.bin likewise.';

@@ -1,9 +1,10 @@
 /** The world outside: files, the streams, other programs. Tests put another in its place. */
 
-import { closeSync, openSync, readSync, writeFileSync, writeSync } from 'node:fs';
+import { closeSync, openSync, readSync, writeSync } from 'node:fs';
 import { createRequire } from 'node:module';
 import { isatty } from 'node:tty';
-import { getSystemErrorMessage } from './system-errors.js';
+import { Inputs, isOpenAs, writeWhole } from './output-files.js';
+import { getSystemErrorMessage, orTrouble } from './system-errors.js';
 import { whyFailed } from './tool-failure.js';
 import { Trouble } from './trouble.js';
 
@@ -11,7 +12,7 @@ import { Trouble } from './trouble.js';
  * @typedef {Object} Io
  * @property {(path: string, limit: number) => Uint8Array} read      `-` is the standard input; no more than the limit is read, and what was
  *                                                                   read may be written over by the next reading
- * @property {(path: string, data: Uint8Array|string) => void} write
+ * @property {(outputs: import('./output-files.js').Output[]) => void} write   all of them or none, and none over what was read
  * @property {(data: Uint8Array|string) => void} print               to the standard output
  * @property {(text: string) => void} complain                       to the standard error
  * @property {() => void} finish                                     what was printed and still waits goes out
@@ -67,7 +68,9 @@ function writeAll(file, data) {
   const bytes = typeof data === 'string' ? Buffer.from(data) : data;
   try {
     for (let done = 0; done < bytes.length;) done += patiently(() => writeSync(file, bytes, done));
-  } catch {
+  } catch (error) {
+    const closed = /** @type {any} */ (error).code === 'EPIPE';
+    if (file === OUTPUT && !closed) writeAll(ERRORS, `krossvil: standard output: ${getSystemErrorMessage(error)}\n`);
     process.exit(2);
   }
 }
@@ -99,15 +102,31 @@ class Waiting {
 
 const waiting = new Waiting();
 
+const inputs = new Inputs();
+
 /**
- * @param {string} path @param {() => any} act
+ * @param {string} path  `-` is the standard input
+ * @param {number} limit
  */
-function orTrouble(path, act) {
+function read(path, limit) {
+  const file = path === '-' ? INPUT : openSync(path, 'r');
   try {
-    return act();
-  } catch (error) {
-    throw new Trouble(`${path}: ${getSystemErrorMessage(error)}`);
+    inputs.note(file, path === '-' ? 'standard input' : path);
+    return readUpTo(file, limit);
+  } finally {
+    if (file !== INPUT) closeSync(file);
   }
+}
+
+/**
+ * A path may be another name of the standard output, as /dev/stdout: what stands in that already stays.
+ * @param {import('./output-files.js').Output[]} outputs
+ */
+function write(outputs) {
+  for (const [path] of outputs) inputs.refuse(path);
+  const [[path, data], ...others] = outputs;
+  if (others.length === 0 && orTrouble(path, () => isOpenAs(path, OUTPUT))) waiting.add(data);
+  else writeWhole(outputs);
 }
 
 /**
@@ -125,16 +144,8 @@ function convert(tool, args, input) {
 
 /** @type {Io} */
 export const realIo = {
-  read: (path, limit) => orTrouble(path === '-' ? 'standard input' : path, () => {
-    if (path === '-') return readUpTo(INPUT, limit);
-    const file = openSync(path, 'r');
-    try {
-      return readUpTo(file, limit);
-    } finally {
-      closeSync(file);
-    }
-  }),
-  write: (path, data) => orTrouble(path, () => writeFileSync(path, data)),
+  read: (path, limit) => orTrouble(path === '-' ? 'standard input' : path, () => read(path, limit)),
+  write,
   print: (data) => waiting.add(data),
   complain(text) {
     waiting.flush();

@@ -131,8 +131,7 @@ export function wave(asking) {
   const dump = vcd(found.trace, { unit });
   if (endingOf(asking, 'vcd') === 'gtkw') {
     const stem = output.slice(0, -'.gtkw'.length);
-    io.write(`${stem}.vcd`, dump);
-    io.write(`${stem}.gtkw`, gtkw(found.trace, basename(stem)));
+    io.write([[`${stem}.vcd`, dump], [`${stem}.gtkw`, gtkw(found.trace, basename(stem))]]);
   } else put(asking, dump);
   return said(asking, found.source.file);
 }

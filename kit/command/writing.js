@@ -24,7 +24,7 @@ export function endingOf({ options }, otherwise) {
  */
 export function put({ io, options }, data) {
   const { output } = options;
-  if (output !== undefined && output !== '-') return io.write(output, data);
+  if (output !== undefined && output !== '-') return io.write([[output, data]]);
   if (io.printsToTerminal && typeof data !== 'string') throw new Trouble('bytes are not written to a terminal: give -o FILE');
   io.print(data);
 }

@@ -27,7 +27,7 @@ test('the exit codes, from a folder that is not its own and through a link', () 
   assert.equal(ends(['check', 'classroom.kv']).status, 0);
   assert.equal(ends(['check', 'changed-verdict.kv']).status, 1);
   assert.equal(ends(['check', 'none.kv']).status, 2);
-  assert.equal(ends(['check', '.']).stderr, 'krossvil: .: it is a directory\n');
+  assert.equal(ends(['check', '.']).stderr, 'krossvil: .: it is a folder\n');
   assert.equal(ends(['check', '-'], { input: sample('classroom') }).stdout.split('\n')[0],
     'accepted end=12 cycles=4 moves=2 state=0 output=0 left=4 longest=3');
   assert.equal(ends([]).status, 2);
