@@ -14,8 +14,11 @@ static inline int load(const char *path, uint8_t *bytes, size_t room, size_t *si
         return 0;
     }
     *size = fread(bytes, 1, room, file);
+    int failed = ferror(file); /* a folder can be opened, and not read */
     fclose(file);
-    return 1;
+    if (failed)
+        fprintf(stderr, "%s cannot be read\n", path);
+    return !failed;
 }
 
 static inline int store(const char *path, const uint8_t *bytes, size_t size)

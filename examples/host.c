@@ -7,6 +7,7 @@
 #include <stdio.h>
 #include "files.h"
 #include "krossvil.h"
+#include "numbers.h"
 
 /* A table has at most 1,626 bytes; one byte more than the longest stimulus lets a file that is too long be turned down as such. */
 static uint8_t table[2048], stimulus[KROSSVIL_STIMULUS_MAX + 1], journal[KROSSVIL_JOURNAL_MAX];
@@ -43,9 +44,8 @@ int main(int count, char **words)
 
     if (!passed("journal", krossvil_check_journal(table, table_size, journal, journal_size, answer, sizeof answer)))
         return 1;
-    printf("journal: accepted end=%u cycles=%u moves=%u state=%u output=%u left=%u longest=%u\n", krossvil_read(answer, 0),
-           krossvil_read(answer, 1), krossvil_read(answer, 2), krossvil_read(answer, 3), krossvil_read(answer, 4),
-           krossvil_read(answer, 5), krossvil_read(answer, 6));
+    printf("journal: ");
+    print_accepted(answer);
 
     /* Every state, and input 0 alone. The table passed, so its fourth byte is the number of states. */
     uint32_t states = (uint32_t)(((uint64_t)1 << table[3]) - 1);

@@ -6,9 +6,9 @@
  *   ./moves examples/back-to-idle/table.bin 31 1 3
  */
 #include <stdio.h>
-#include <stdlib.h>
 #include "files.h"
 #include "krossvil.h"
+#include "numbers.h"
 
 static uint8_t table[2048], path[KROSSVIL_PATH_MAX]; /* a table has at most 1,626 bytes */
 static uint32_t sums[KROSSVIL_SUMS_MAX];
@@ -30,18 +30,6 @@ static void print_path(uint32_t length)
     for (uint32_t k = 0; k < length; k++)
         printf(k % 2 == 0 ? " state %u" : " input %u", path[k]);
     fputs(length == 0 ? " none\n" : "\n", stdout);
-}
-
-/* A number of 32 bits in base ten; 0 if the word is none. */
-static int read_number(const char *word, uint32_t *number)
-{
-    char *end;
-    unsigned long long read = strtoull(word, &end, 10);
-    *number = (uint32_t)read;
-    if (*word >= '0' && *word <= '9' && *end == '\0' && read <= UINT32_MAX)
-        return 1;
-    fprintf(stderr, "%s is not a number of 32 bits\n", word);
-    return 0;
 }
 
 int main(int count, char **words)

@@ -6,9 +6,9 @@
  *   ./tight examples/classroom/table.bin 3 1
  */
 #include <stdio.h>
-#include <stdlib.h>
 #include "files.h"
 #include "krossvil.h"
+#include "numbers.h"
 
 /* A table that passes has at most 1,626 bytes. */
 static uint8_t table[2048];
@@ -16,16 +16,16 @@ static uint8_t table[2048];
 int main(int count, char **words)
 {
     size_t size;
+    uint32_t states, inputs;
     uint8_t answer[KROSSVIL_TIGHT_ANSWER];
 
     if (count != 4) {
         fprintf(stderr, "usage: tight TABLE STATES INPUTS\n");
         return 2;
     }
-    if (!load(words[1], table, sizeof table, &size))
+    if (!load(words[1], table, sizeof table, &size) || !read_number(words[2], &states) || !read_number(words[3], &inputs))
         return 2;
 
-    uint32_t states = (uint32_t)strtoul(words[2], NULL, 10), inputs = (uint32_t)strtoul(words[3], NULL, 10);
     uint64_t code = krossvil_reaction_tight(table, size, states, inputs, answer, sizeof answer);
     if (code != 0) {
         printf("refused %u at %u\n", krossvil_number(code), krossvil_place(code));

@@ -131,6 +131,29 @@ rewrites() { # 'PROGRAM WORDS' FILE LINE NEW: run with the words on the file in 
     fi
 }
 
+echo "== the example of a check"
+compile examples/check.c "${called[@]}" "${link[@]}" -o "$out/check" || stop "did not build"
+checks() { # STATUS LINE WORDS: with these words it prints the line and ends with the status
+    local status=$1 line=$2 printed
+    shift 2
+    printed=$("${run[@]}" "$out/check" "$@")
+    if [ "$?" -eq "$status" ] && [ "$printed" = "$line" ]; then
+        echo "$*: $printed"
+        passed=$((passed + 1))
+    else
+        echo "check $*: '$printed', and not '$line' with status $status"
+        failed=$((failed + 1))
+    fi
+}
+accepted='accepted end=12 cycles=4 moves=2 state=0 output=0 left=4 longest=3'
+{ head -c 63 examples/short-journal/short.bin; printf '\001'; tail -c +65 examples/short-journal/short.bin; } >"$out/changed.bin"
+checks 0 "$accepted" examples/short-journal/table.bin examples/short-journal/short.bin
+checks 0 "$accepted" examples/short-journal/table.bin examples/short-journal/journal.bin
+checks 1 'refused 28 at 58' examples/short-journal/table.bin "$out/changed.bin"
+checks 1 'refused 28 at 76' examples/changed-verdict/table.bin examples/changed-verdict/journal.bin
+checks 1 'refused 21 at 4' examples/short-clock/table.bin examples/short-clock/stamped.bin
+checks 1 'refused 11 at 40' examples/idle-sets/old-table.bin examples/short-journal/short.bin
+
 echo "== the example converter"
 compile examples/convert.c "${called[@]}" "${link[@]}" -o "$out/convert" || stop "did not build"
 rewrites convert examples/idle-sets/old-table.bin 'changed=1' examples/idle-sets/table.bin
@@ -147,7 +170,6 @@ rewrites unstamp examples/classroom/stimulus.bin 'refused 21 at 0' examples/clas
 echo "== the example of short journals"
 compile examples/shorten.c "${called[@]}" "${link[@]}" -o "$out/shorten" || stop "did not build"
 shorten="shorten examples/short-journal/table.bin"
-{ head -c 63 examples/short-journal/short.bin; printf '\001'; tail -c +65 examples/short-journal/short.bin; } >"$out/changed.bin"
 rewrites "$shorten" examples/short-journal/journal.bin 'bytes=93' examples/short-journal/short.bin
 rewrites "$shorten" examples/short-journal/short.bin 'bytes=123' examples/short-journal/journal.bin
 rewrites "$shorten" examples/changed-verdict/journal.bin 'refused 28 at 76' examples/changed-verdict/journal.bin
@@ -258,6 +280,37 @@ tight 'time=6 target=2 tight=5' examples/tight-times/five/table.bin 3 2
 tight 'time=3 target=2 tight=3' examples/classroom/table.bin 2 2
 tight 'refused 10 at 2' examples/classroom/table.bin 2 1
 tight 'refused 14 at 0' examples/classroom-timers/table.bin 3 1
+
+echo "== files and numbers that cannot be read"
+turns_down() { # LINE PROGRAM WORDS: with these words it prints nothing, says the line on the error stream and ends with 2
+    local line=$1 program=$2 printed
+    shift 2
+    printed=$("${run[@]}" "$out/$program" "$@" 2>"$out/said.txt")
+    if [ "$?" -eq 2 ] && [ -z "$printed" ] && [ "$(cat "$out/said.txt")" = "$line" ]; then
+        passed=$((passed + 1))
+    else
+        echo "$program $*: '$printed' and '$(cat "$out/said.txt")', and not '$line' alone with status 2"
+        failed=$((failed + 1))
+    fi
+}
+class=examples/classroom/table.bin
+rm -f "$out/new.bin"
+for reader in 'example X X' "example $class X" 'check X X' "check $class X" 'convert X N' 'unstamp X N' 'shorten X X N' \
+    "shorten $class X N" 'salvage X X N' "salvage $class X N" 'season X' "season $class X" 'moves X 3 1 1' 'tight X 3 1'; do
+    read -ra words <<<"${reader/%N/$out/new.bin}"
+    turns_down "$out cannot be read" "${words[@]/#X/$out}" # a folder
+    turns_down "$out/none cannot be opened" "${words[@]/#X/$out/none}"
+done
+for word in x '' 1x -1 ' 1' +1 4294967296; do
+    turns_down "'$word' is not a number of 32 bits" tight "$class" "$word" 1
+    turns_down "'$word' is not a number of 32 bits" tight "$class" 3 "$word"
+    for at in 0 1 2; do
+        numbers=(3 1 1)
+        numbers[at]=$word
+        turns_down "'$word' is not a number of 32 bits" moves "$class" "${numbers[@]}"
+    done
+done
+[ ! -e "$out/new.bin" ] || stop "what could not be read was written"
 
 if [ "$self" = no ]; then
     echo "== the stack that the functions need"
