@@ -22,7 +22,8 @@ export const COMMANDS = {
     group: 'in class', files: 'TABLE [JOURNAL...]', count: [1, ANY], options: ['as'], module: () => import('./check.js'),
     says: 'is each journal a run of the table? if not, why not',
     more: ["The first line is the proved checker's: accepted with its numbers, or refused with the number and the byte.",
-      'Without a journal, the one in the text of the table is checked; if there is none, the table alone.'],
+      'Without a journal, the one in the text of the table is checked; if there is none, the table alone.',
+      'A folder stands for the files in it.'],
     examples: [
       ['krossvil check classroom.kv', 'the table and the journal in one text'],
       ['krossvil check changed-verdict.kv', 'a journal that is refused, and why'],
@@ -132,7 +133,8 @@ export const COMMANDS = {
   dwell: {
     group: 'in the yard', files: 'TABLE [JOURNAL...]', count: [1, ANY], options: ['output', 'as', ...PICTURE], module: () => import('./dwell.js'),
     says: 'where the time went, over up to 1,000 journals (plot: .svg .png .pdf)',
-    more: ['--plain gives the lines of the program `dwell`, which a spreadsheet reads. A journal that is refused is said, and not counted.'],
+    more: ['--plain gives the lines of the program `dwell`, which a spreadsheet reads. A journal that is refused is said, and not counted.',
+      'A folder stands for the files in it.'],
     examples: [
       ['krossvil dwell classroom.kv', 'the time in each state'],
       ['krossvil dwell table.bin journal.bin journal.bin -o dwell.svg', 'with a plot'],

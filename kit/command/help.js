@@ -13,7 +13,9 @@ export const FILES = [
   'A FILE is bytes, or a text that begins with the word krossvil; - is the standard input. A text may hold a table and its journal and '
     + 'stimulus together: then it is named once. Names come from the table\'s text, or from --names TEXT.',
   '-o FILE writes to FILE, and its ending says the form. FILE is none of those that are read, and an old one is replaced once all is written. '
-    + '--json gives one object on one line for each answer, --plain no sentences.',
+    + '--plain leaves sentences out.',
+  '--json gives one object on one line for each answer, on the standard output. Its "answer" is accepted, refused or, where the exit is 2, '
+    + 'not asked; "says" has the sentences.',
 ];
 
 const MADE = 'table.bin is made with: krossvil bytes classroom.kv --as table -o table.bin; journal.bin likewise.';
@@ -64,7 +66,7 @@ export function generalHelp() {
     `  cp ${examplesFolder()}/*.kv .`,
     '  krossvil check changed-verdict.kv',
     '  krossvil picture changed-verdict.kv -o changed-verdict.svg', '',
-    'krossvil COMMAND --help has more, and an example to type.', '',
+    'krossvil COMMAND --help has more, and an example to type. krossvil --version has the version, and the sum of the library.', '',
   ].join('\n');
 }
 

@@ -1,7 +1,8 @@
 /** The world outside: files, the streams, other programs. Tests put another in its place. */
 
-import { closeSync, openSync, readSync, writeSync } from 'node:fs';
+import { closeSync, openSync, readSync, readdirSync, statSync, writeSync } from 'node:fs';
 import { createRequire } from 'node:module';
+import { join } from 'node:path';
 import { isatty } from 'node:tty';
 import { Inputs, isOpenAs, writeWhole } from './output-files.js';
 import { getSystemErrorMessage, orTrouble } from './system-errors.js';
@@ -12,6 +13,7 @@ import { Trouble } from './trouble.js';
  * @typedef {Object} Io
  * @property {(path: string, limit: number) => Uint8Array} read      `-` is the standard input; no more than the limit is read, and what was
  *                                                                   read may be written over by the next reading
+ * @property {(path: string) => string[]|null} list                  the files of a folder; null if it is none
  * @property {(outputs: import('./output-files.js').Output[]) => void} write   all of them or none, and none over what was read
  * @property {(data: Uint8Array|string) => void} print               to the standard output
  * @property {(text: string) => void} complain                       to the standard error
@@ -119,6 +121,17 @@ function read(path, limit) {
 }
 
 /**
+ * The files of a folder by their names: no hidden ones, and no folders, pipes or devices, since those would not end.
+ * @param {string} path
+ * @returns {string[]|null}
+ */
+function list(path) {
+  if (path === '-' || !statSync(path, { throwIfNoEntry: false })?.isDirectory()) return null;
+  const files = readdirSync(path).filter((/** @type {string} */ name) => !name.startsWith('.')).sort().map((/** @type {string} */ name) => join(path, name));
+  return files.filter((/** @type {string} */ file) => statSync(file, { throwIfNoEntry: false })?.isFile() ?? true);
+}
+
+/**
  * A path may be another name of the standard output, as /dev/stdout: what stands in that already stays.
  * @param {import('./output-files.js').Output[]} outputs
  */
@@ -145,6 +158,7 @@ function convert(tool, args, input) {
 /** @type {Io} */
 export const realIo = {
   read: (path, limit) => orTrouble(path === '-' ? 'standard input' : path, () => read(path, limit)),
+  list: (path) => orTrouble(path, () => list(path)),
   write,
   print: (data) => waiting.add(data),
   complain(text) {

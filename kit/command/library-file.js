@@ -20,9 +20,14 @@ export function examplesFolder() {
   return places.find((place) => existsSync(place)) ?? places[0];
 }
 
-/** The proved library. */
-export async function ownLibrary() {
+/** The file of the proved library. */
+export function libraryFile() {
   const file = madeFile('krossvil.wasm');
   if (!file) throw new Trouble('the library is not built yet: run kit/wasm/build');
-  return loadLibrary(readFileSync(file));
+  return file;
+}
+
+/** The proved library. */
+export async function ownLibrary() {
+  return loadLibrary(readFileSync(libraryFile()));
 }

@@ -1,43 +1,24 @@
 /** The command `krossvil`: finds out what is asked, asks it, and ends with 0, 1 or 2. */
 
-import { parseArgs } from 'node:util';
 import { visible } from '../escape.js';
 import { didYouMean } from '../notation/mistakes.js';
+import { countFiles, parsed, wantsObjects } from './arguments.js';
 import { ACCEPTED, Asking, NOT_ASKED } from './asking.js';
 import { COMMANDS } from './commands.js';
-import { commandHelp, generalHelp, optionsOf, usage } from './help.js';
+import { commandHelp, generalHelp } from './help.js';
 import { realIo } from './io.js';
 import { ownLibrary } from './library-file.js';
-import { OPTIONS } from './options.js';
+import { jsonLine, notAsked } from './terminal.js';
 import { Trouble } from './trouble.js';
 
 /** @typedef {import('./io.js').Io} Io */
 /** @typedef {import('../types.js').Library} Library */
 
-/**
- * @param {string} name @param {string[]} args
- */
-function parsed(name, args) {
-  const options = Object.fromEntries(optionsOf(name).map((option) => {
-    const { type, short } = OPTIONS[option];
-    return [option, short ? { type, short } : { type }];
-  }));
-  try {
-    return parseArgs({ args, options, allowPositionals: true });
-  } catch (error) {
-    const [first] = String(/** @type {Error} */ (error).message).split('. ');
-    throw new Trouble(`${first.replace(/\.$/, '')}\nusage: ${usage(name)}`);
-  }
-}
-
-/**
- * @param {string} name @param {string[]} files
- */
-function countFiles(name, files) {
-  const [least, most] = COMMANDS[name].count;
-  if (files.length < least) throw new Trouble(`a file is missing\nusage: ${usage(name)}`);
-  if (files.length > most) throw new Trouble(`these are too many files\nusage: ${usage(name)}`);
-}
+/** What is asked of the command itself, and for the shell's completion. */
+const BESIDES = {
+  '--version': () => import('./version.js'),
+  complete: () => import('./complete.js'),
+};
 
 /**
  * @param {string[]} args @param {Io} io @param {() => Promise<Library>} load
@@ -49,18 +30,30 @@ async function answer(args, io, load) {
     io.print(generalHelp());
     return first === undefined ? NOT_ASKED : ACCEPTED;
   }
+  if (first === '--version' || first === 'complete') return (await BESIDES[first]()).answer(io, rest);
   const [name, given] = first === 'help' ? [rest[0], ['--help']] : [first, rest];
   if (!Object.hasOwn(COMMANDS, name)) {
     throw new Trouble(`there is no command '${name}'${didYouMean(name, Object.keys(COMMANDS))}\nsee: krossvil --help`);
   }
-  const { values, positionals } = parsed(name, given);
-  if (values.help) {
+  const { options, files } = parsed(name, given);
+  if (options.help) {
     io.print(commandHelp(name));
     return ACCEPTED;
   }
-  countFiles(name, positionals);
+  countFiles(name, files);
   const [module, library] = await Promise.all([COMMANDS[name].module(), load()]);
-  return module[name](new Asking(io, library, positionals, values, COMMANDS[name].writes === true));
+  return module[name](new Asking(io, library, files, options, COMMANDS[name].writes === true));
+}
+
+/**
+ * Says why nothing could be asked.
+ * @param {Io} io @param {string[]} args @param {string} message
+ */
+export function sayFailure(io, args, message) {
+  if (wantsObjects(args)) io.print(`${jsonLine(notAsked(message))}\n`);
+  else for (const line of `krossvil: ${message}`.split('\n')) io.complain(`${visible(line)}\n`);
+  io.finish();
+  return NOT_ASKED;
 }
 
 /**
@@ -72,8 +65,7 @@ export async function main(args, io = realIo, load = ownLibrary) {
     return await answer(args, io, load);
   } catch (error) {
     if (!(error instanceof Trouble)) throw error;
-    for (const line of `krossvil: ${error.message}`.split('\n')) io.complain(`${visible(line)}\n`);
-    return NOT_ASKED;
+    return sayFailure(io, args, error.message);
   } finally {
     io.finish();
   }

@@ -2,6 +2,7 @@
 
 import { ACCEPTED, NOT_ASKED } from './asking.js';
 import { JOURNALS, shownFile } from './sources.js';
+import { notAsked } from './terminal.js';
 import { Trouble } from './trouble.js';
 
 /** @typedef {import('./asking.js').Asking} Asking */
@@ -15,9 +16,21 @@ import { Trouble } from './trouble.js';
 function sayTrouble(asking, file, error) {
   if (!(error instanceof Trouble)) throw error;
   asking.terminal.clearProgress();
-  if (asking.json) asking.terminal.json({ file, answer: 'not asked', says: error.message.split('\n') });
+  if (asking.json) asking.terminal.json({ file, ...notAsked(error.message) });
   else asking.complain(error.message);
   return NOT_ASKED;
+}
+
+/**
+ * The files of the journals that are named behind the table: a folder stands for those in it.
+ * @param {Asking} asking
+ */
+export function journalFiles({ io, files }) {
+  return files.slice(1).flatMap((file) => {
+    const inside = io.list(file);
+    if (inside?.length === 0) throw new Trouble(`${file}: there is no file in this folder`);
+    return inside ?? [file];
+  });
 }
 
 /** @param {number[]} codes */

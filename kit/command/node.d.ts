@@ -1,4 +1,5 @@
 // What the command uses of Node, as far as its types are checked: not at all.
+declare module 'node:crypto';
 declare module 'node:fs';
 declare module 'node:module';
 declare module 'node:path';

@@ -7,7 +7,7 @@ export const OPTIONS = {
   output: { type: 'string', short: 'o', value: 'FILE', says: 'write to FILE; its ending says the form' },
   names: { type: 'string', value: 'TEXT', says: "take the names from this table's text" },
   as: { type: 'string', value: 'KIND', says: 'table, journal, short, stamped or stimulus: what the bytes are, or which part of a text is meant' },
-  json: { type: 'boolean', says: 'one object on one line for each answer' },
+  json: { type: 'boolean', says: 'one object on one line for each answer, and for each failure' },
   plain: { type: 'boolean', says: 'no sentences and no colour' },
   help: { type: 'boolean', short: 'h', says: 'this help' },
   title: { type: 'string', value: 'WORDS', says: "the picture's title" },

@@ -18,15 +18,15 @@ import { endingOf, put, putPicture } from './writing.js';
 /** @typedef {import('./asking.js').Asking} Asking */
 
 /**
- * A number of an option.
- * @param {Asking} asking @param {string} name @param {number} most
+ * A number of an option. The most that is understood may be more than the most that is worth asking for.
+ * @param {Asking} asking @param {string} name @param {number} most @param {number} [sensible]
  * @returns {number|undefined}
  */
-export function numberOf({ options }, name, most) {
+export function numberOf({ options }, name, most, sensible = most) {
   const words = options[name];
   if (words === undefined) return undefined;
   const number = /^[0-9]+$/.test(words) ? Number(words) : NaN;
-  if (!(number <= most)) throw new Trouble(`--${name} takes a number from 0 to ${most}, not '${words}'`);
+  if (!(number <= most)) throw new Trouble(`--${name} takes a number from 0 to ${sensible}, not '${words}'`);
   return number;
 }
 

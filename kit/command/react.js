@@ -86,7 +86,7 @@ function answerOne(asking, source, table, question, answer) {
  */
 export function react(asking) {
   const { options, library } = asking;
-  const moves = numberOf(asking, 'moves', 4294967295);
+  const moves = numberOf(asking, 'moves', 4294967295, 32);
   const source = asking.table();
   if (tableRefused(asking, source)) return REFUSED;
   const table = /** @type {Table} */ (decodeTable(source.bytes, source.names));

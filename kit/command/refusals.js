@@ -4,7 +4,7 @@ import { refusalLine } from '../answers.js';
 import { MEANINGS, explainJournal, explainRefusal, isTableRefusal } from '../explain.js';
 import { originAt, recordLine } from '../notation.js';
 import { traceJournal, traceStimulus } from '../trace.js';
-import { shownFile } from './sources.js';
+import { sayLooks, shownFile } from './sources.js';
 
 /** @typedef {import('../types.js').Explanation} Explanation */
 /** @typedef {import('../types.js').Refusal} Refusal */
@@ -76,12 +76,21 @@ function shownPlace(told) {
 }
 
 /**
+ * What a file of bytes looks like, if that is something else.
+ * @param {Source} source
+ */
+function looksOf({ text, bytes }) {
+  const says = text === null ? sayLooks(bytes) : null;
+  return says ? [`The file ${says}.`] : [];
+}
+
+/**
  * @param {Told} told
  */
 export function toldObject(told) {
   const { refusal, explanation, source } = told;
   const origin = originOf(told);
-  const says = [...explanation.sentences, ...(explanation.slip ? [explanation.slip] : [])];
+  const says = [...explanation.sentences, ...(explanation.slip ? [explanation.slip] : []), ...looksOf(source)];
   return {
     file: source.file, answer: 'refused', number: refusal.number, place: refusal.place, meaning: MEANINGS.get(refusal.number) ?? '', says,
     ...(explanation.slipName ? { slip: explanation.slipName } : {}),
@@ -104,7 +113,7 @@ export function tell(asking, told, before = '') {
   if (place) terminal.block(place);
   for (const sentence of explanation.sentences) terminal.sentence(sentence);
   if (explanation.slip) terminal.sentence(explanation.slip, 'bold');
-  if (source.looksText) terminal.sentence('The file looks like text. A text begins with a line such as: krossvil journal');
+  for (const sentence of looksOf(source)) terminal.sentence(sentence);
 }
 
 /**

@@ -1,7 +1,9 @@
-/** Runs the command with the words that it was started with. */
+/** What the command is started with. A fault of the command itself is no refusal: it ends with 2 as well. */
 
-import { main } from './main.js';
+import { realIo } from './io.js';
+import { main, sayFailure } from './main.js';
 
-main(process.argv.slice(2)).then((code) => {
+const args = process.argv.slice(2);
+main(args).catch((error) => sayFailure(realIo, args, `this is a fault of krossvil itself: ${error?.stack ?? error}`)).then((code) => {
   process.exitCode = code;
 });

@@ -2,6 +2,7 @@
 
 import { FORMS, decodeTable, formOf } from '../fields.js';
 import { listed, plainNames } from '../names.js';
+import { looksLike } from '../looks-like.js';
 import { FORM_WORDS, TEXT_MAX, isText, readText, showMistakes } from '../notation.js';
 import { Trouble } from './trouble.js';
 
@@ -19,7 +20,6 @@ import { Trouble } from './trouble.js';
  * @property {Uint8Array} bytes
  * @property {Part|null} part      of the text that it comes from, if it does
  * @property {Text|null} text
- * @property {boolean} looksText   bytes that look like a text whose first word is missing
  */
 
 /** @typedef {Source & {names: Names|null}} TableSource   null where the table comes from bytes and no names are given */
@@ -37,15 +37,6 @@ const mostOf = (/** @type {'table'|Form} */ form) => (form === 'table' ? TABLE_R
 
 /** @param {'table'|Form} kind */
 export const wordOf = (kind) => (kind === 'table' ? 'table' : FORM_WORDS[kind]);
-
-/**
- * Would a person call these bytes a text?
- * @param {Uint8Array} bytes
- */
-function looksLikeText(bytes) {
-  const start = bytes.subarray(0, 200);
-  return bytes.length > 3 && start.every((byte) => (byte >= 32 && byte < 127) || byte === 9 || byte === 10 || byte === 13);
-}
 
 export class Sources {
   /** @param {Io} io */
@@ -81,8 +72,9 @@ export class Sources {
    */
   names(file) {
     const data = this.read(file);
-    const text = isText(data) ? this.text(file, data, null) : null;
-    if (!text?.names) throw new Trouble(`${shownFile(file)}: names are taken from a table's text, and there is none`);
+    if (!isText(data)) throw noText(file, data);
+    const text = this.text(file, data, null);
+    if (!text.names) throw new Trouble(`${shownFile(file)}: names are taken from a table's text, and there is none`);
     return text.names;
   }
 
@@ -96,7 +88,7 @@ export class Sources {
     const text = this.text(file, data, names);
     const part = text.parts.find(({ kind }) => kind === 'table');
     if (!part) throw new Trouble(`${shownFile(file)}: there is no table in this text; name the table's file first, then this one`);
-    return { file, form: 'table', bytes: part.bytes, part, text, looksText: false, names: names ?? text.names };
+    return { file, form: 'table', bytes: part.bytes, part, text, names: names ?? text.names };
   }
 
   /**
@@ -109,7 +101,7 @@ export class Sources {
     if (!isText(data)) return { table: null, source: bytesSource(file, data, form) };
     const text = this.text(file, data, names ?? NONE);
     const part = text.parts.find(({ kind }) => kind === 'table');
-    const table = part ? { file, form: part.kind, bytes: part.bytes, part, text, looksText: false, names: names ?? text.names } : null;
+    const table = part ? { file, form: part.kind, bytes: part.bytes, part, text, names: names ?? text.names } : null;
     return { table, source: partsOf(file, text, [form], null)[0] };
   }
 
@@ -122,10 +114,10 @@ export class Sources {
     const data = this.read(file);
     if (!isText(data)) {
       const form = as ?? formOf(data);
-      return { parts: [{ file, form, bytes: data, part: null, text: null, looksText: looksLikeText(data) }], names, isText: false };
+      return { parts: [{ file, form, bytes: data, part: null, text: null }], names, isText: false };
     }
     const text = this.text(file, data, names);
-    const parts = text.parts.map((part) => ({ file, form: part.kind, bytes: part.bytes, part, text, looksText: false }));
+    const parts = text.parts.map((part) => ({ file, form: part.kind, bytes: part.bytes, part, text }));
     return { parts, names: text.names, isText: true };
   }
 
@@ -150,6 +142,24 @@ export class Sources {
   }
 }
 
+/**
+ * What bytes look like that are not what they were taken for, and what to do about it; null if that is unknown.
+ * @param {Uint8Array} data
+ */
+export function sayLooks(data) {
+  const looks = looksLike(data);
+  if (looks === null) return null;
+  const advice = looks.includes('UTF-') ? '; save it as UTF-8' : looks.startsWith('a text') ? '; its first line is one such as: krossvil journal' : '';
+  return `looks like ${looks}${advice}`;
+}
+
+/**
+ * @param {string} file @param {Uint8Array} data
+ */
+export function noText(file, data) {
+  return new Trouble(`${shownFile(file)} ${sayLooks(data) ?? 'is no text: it does not begin with the word krossvil'}`);
+}
+
 /** @param {string} file */
 export const shownFile = (file) => (file === '-' ? 'standard input' : file);
 
@@ -158,7 +168,7 @@ export const shownFile = (file) => (file === '-' ? 'standard input' : file);
  * @returns {Source}
  */
 function bytesSource(file, data, form) {
-  return { file, form, bytes: data.subarray(0, mostOf(form)), part: null, text: null, looksText: looksLikeText(data) };
+  return { file, form, bytes: data.subarray(0, mostOf(form)), part: null, text: null };
 }
 
 /**
@@ -178,7 +188,7 @@ function partsOf(file, text, forms, as) {
   const wanted = as ? [as] : forms;
   const parts = text.parts.filter(({ kind }) => wanted.some((form) => form === kind));
   if (parts.length === 0) throw new Trouble(`${shownFile(file)}: there is no ${listed(wanted.map(wordOf), 'or')} in this text`);
-  return parts.map((part) => ({ file, form: /** @type {Form} */ (part.kind), bytes: part.bytes, part, text, looksText: false }));
+  return parts.map((part) => ({ file, form: /** @type {Form} */ (part.kind), bytes: part.bytes, part, text }));
 }
 
 /**

@@ -20,10 +20,16 @@ export function unicodeEscape(character) {
  * JSON on one line. What cannot be seen is written as an escape, so that the object is the same and a terminal is not moved.
  * @param {unknown} value
  */
-function jsonLine(value) {
+export function jsonLine(value) {
   const line = JSON.stringify(value);
   return visible(line) === line ? line : [...line].map((c) => (visible(c) === c ? c : unicodeEscape(c))).join('');
 }
+
+/**
+ * That something could not be asked, as an object.
+ * @param {string} message
+ */
+export const notAsked = (message) => ({ answer: 'not asked', says: message.split('\n') });
 
 /**
  * Words in lines of a width.

@@ -1,5 +1,6 @@
 /** The manual page and the completion, made of the list of commands. `node kit/deb/manual.js manual|completion` prints one of them. */
 
+import { readFileSync } from 'node:fs';
 import { COMMANDS } from '../command/commands.js';
 import { EXITS, FILES, GROUPS, optionWords, optionsOf, usage } from '../command/help.js';
 import { COMMON, OPTIONS } from '../command/options.js';
@@ -38,31 +39,10 @@ export function manual() {
 /** The completion for bash. */
 export function completion() {
   const words = (/** @type {string} */ option) => [`--${option}`, ...(OPTIONS[option].short ? [`-${OPTIONS[option].short}`] : [])];
-  const options = (/** @type {string} */ name) => optionsOf(name).flatMap(words).join(' ');
-  return [
-    '# Completion of krossvil for bash: commands, options, kinds and files.',
-    '_krossvil() {',
-    '    local word=${COMP_WORDS[COMP_CWORD]} before=${COMP_WORDS[COMP_CWORD - 1]} options',
-    '    if [ "$COMP_CWORD" -eq 1 ]; then',
-    `        mapfile -t COMPREPLY < <(compgen -W '${Object.keys(COMMANDS).join(' ')} help' -- "$word")`,
-    '        return',
-    '    fi',
-    '    case $before in',
-    `    --as) mapfile -t COMPREPLY < <(compgen -W 'table journal short stamped stimulus' -- "$word"); return ;;`,
-    `    --show) mapfile -t COMPREPLY < <(compgen -W '${SHOWN.join(' ')}' -- "$word"); return ;;`,
-    '    esac',
-    '    case ${COMP_WORDS[1]} in',
-    `    help) mapfile -t COMPREPLY < <(compgen -W '${Object.keys(COMMANDS).join(' ')}' -- "$word"); return ;;`,
-    ...Object.keys(COMMANDS).map((name) => `    ${name}) options='${options(name)}' ;;`),
-    '    esac',
-    '    if [[ $word == -* ]]; then',
-    '        mapfile -t COMPREPLY < <(compgen -W "$options" -- "$word")',
-    '    else',
-    '        mapfile -t COMPREPLY < <(compgen -f -- "$word")',
-    '    fi',
-    '}',
-    'complete -o filenames -F _krossvil krossvil', '',
-  ].join('\n');
+  const names = Object.keys(COMMANDS);
+  const options = names.map((name) => `${name}) options='${optionsOf(name).flatMap(words).join(' ')}' ;;`);
+  return readFileSync(new URL('completion.bash', import.meta.url), 'utf8')
+    .replaceAll('@COMMANDS@', names.join(' ')).replace('@SHOWN@', SHOWN.join(' ')).replace('@OPTIONS@', options.join('\n    '));
 }
 
 const [what] = process.argv.slice(2);

@@ -3,8 +3,9 @@
 import { FORMS, kindOf, numberAt, valueLength } from '../fields.js';
 import { counted, numbered, quoted, say } from '../names.js';
 import { FORM_WORDS } from '../notation/records.js';
-import { accepted, ownValue } from '../trace.js';
+import { ownValue } from '../trace.js';
 import { explainDifferent } from './difference.js';
+import { explainTorn } from './torn.js';
 
 /** @typedef {import('../types.js').Trace} Trace */
 /** @typedef {import('../types.js').Step} Step */
@@ -52,26 +53,6 @@ function explainTooLong({ trace }) {
   // A file that is read up to one byte more than the limit may have been longer.
   const has = length > max + 1 ? say`${length}` : say`more than ${max}`;
   return { sentences: [say`The ${formWord(trace)} has ${has} bytes; at most ${max} are read.`] };
-}
-
-/**
- * @param {Case} c
- * @returns {Said}
- */
-function explainTorn({ trace, record }) {
-  const word = formWord(trace);
-  const left = trace.journal.length - record.place;
-  const is = left === 1 ? 'is' : 'are';
-  const torn = left > 0
-    ? say`The ${word} stops in the middle of a field: of the one that starts at byte ${record.place}, ${counted(left, 'byte')} ${is} there.`
-    : trace.journal.length === 0 ? say`The ${word} is empty.` : say`The ${word} stops after byte ${record.place - 1} without an end field.`;
-  const ticks = accepted(trace).filter((step) => step.record.kind === 'tick');
-  const last = ticks[ticks.length - 1];
-  if (accepted(trace).length === 0) return { sentences: [torn] };
-  const sound = last
-    ? say`All before it is sound; the last whole cycle ended with the tick at ${last.record.time}.`
-    : 'All before it is sound, but there is no whole cycle in it.';
-  return { sentences: [torn, sound] };
 }
 
 /**

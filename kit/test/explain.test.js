@@ -6,7 +6,7 @@ import { EXAMPLES } from '../examples.js';
 import { MEANINGS, explainJournal, explainReaction, explainRefusal, explainRoom } from '../explain.js';
 import { decodeTable } from '../fields.js';
 import { newReport, readReport } from '../library.js';
-import { originAt, readText } from '../notation.js';
+import { FORM_WORDS, originAt, readText } from '../notation.js';
 import { traceJournal, traceStimulus } from '../trace.js';
 import { library, sample } from './core.js';
 import { REFUSALS, checkInto, movesWith, runInto } from './refusals.js';
@@ -123,6 +123,37 @@ test(`slips that have no example of their own: ${SLIPS.length}`, () => {
     if (slip?.includes(': either ')) assert.deepEqual([slipName, either], [null, ['hold-reached', 'wrong-instant']], what);
     else assert.deepEqual([slipName !== null, either], [slip !== null, undefined], what);
   }
+});
+
+/** What is refused of a text that has only the first lines of a sample's records, and the line with which that is ended. */
+function cut(name, kind, count) {
+  const [head, ...parts] = sample(name).split(/^krossvil /m).slice(1);
+  const lines = parts.find((each) => each.startsWith(FORM_WORDS[kind])).split('\n').filter((line) => line.trim() !== '');
+  const text = `krossvil ${head}krossvil ${lines.slice(0, 1 + count).join('\n')}\n`;
+  const read = (whole) => {
+    const { parts: [table, records], names } = readText(whole);
+    const given = { table: table.bytes, names };
+    return kind === 'stimulus' ? traceStimulus(library, { ...given, stimulus: records.bytes })
+      : traceJournal(library, { ...given, journal: records.bytes, form: kind });
+  };
+  const [, line] = /In a text this line ends it: (.*)$/.exec(explainJournal(read(text)).sentences.join(' ')) ?? [];
+  return { line, ended: line === undefined ? null : read(`${text}${line}\n`), records: lines.length - 1 };
+}
+
+test('a missing end suggests its line, and with that line what was there is accepted', () => {
+  assert.equal(cut('classroom', 'journal', 4).line, '2  end');
+  assert.deepEqual([cut('short-journal', 'short', 4).line, cut('classroom', 'stimulus', 4).line], ['+0  end', '2  end']);
+  let ended = 0;
+  for (const [name, kind] of [['classroom', 'journal'], ['classroom', 'stimulus'], ['short-journal', 'short'], ['stamped-journal', 'stamped'],
+    ['gas-burner', 'journal'], ['watchdog', 'journal']]) {
+    for (let count = 1; count < cut(name, kind, 1).records; count++, ended++) {
+      const { line, ended: trace } = cut(name, kind, count);
+      assert.match(line, /^\+?[0-9]+ {2}end$/);
+      assert.equal(trace?.refused ?? null, null, `${name} ${kind} ${count}`); // a stimulus that is run has no trace of its own
+    }
+  }
+  assert.ok(ended > 80, `${ended} were ended`);
+  assert.equal(exampleOf('torn-journal').explanation.sentences.join(' ').includes('In a text'), false);
 });
 
 test('what holds at the end', () => {
