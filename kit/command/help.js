@@ -14,8 +14,8 @@ export const FILES = [
     + 'stimulus together: then it is named once. Names come from the table\'s text, or from --names TEXT.',
   '-o FILE writes to FILE, and its ending says the form. FILE is none of those that are read, and an old one is replaced once all is written. '
     + '--plain leaves sentences out.',
-  '--json gives one object on one line for each answer, on the standard output. Its "answer" is accepted, refused or, where the exit is 2, '
-    + 'not asked; "says" has the sentences.',
+  '--json gives one object on one line for each answer, and for each failure, on the standard output. Of a failure its "answer" is refused, or '
+    + 'not asked where the exit is 2, and "says" has the sentences.',
 ];
 
 const MADE = 'table.bin is made with: krossvil bytes classroom.kv --as table -o table.bin; journal.bin likewise.';

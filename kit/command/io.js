@@ -127,8 +127,8 @@ function read(path, limit) {
  */
 function list(path) {
   if (path === '-' || !statSync(path, { throwIfNoEntry: false })?.isDirectory()) return null;
-  const files = readdirSync(path).filter((/** @type {string} */ name) => !name.startsWith('.')).sort().map((/** @type {string} */ name) => join(path, name));
-  return files.filter((/** @type {string} */ file) => statSync(file, { throwIfNoEntry: false })?.isFile() ?? true);
+  const names = /** @type {string[]} */ (readdirSync(path)).filter((name) => !name.startsWith('.')).sort();
+  return names.map((name) => join(path, name)).filter((file) => statSync(file, { throwIfNoEntry: false })?.isFile() ?? true);
 }
 
 /**

@@ -3,7 +3,8 @@
 import { TEXT_MAX, recordsText, tableText } from '../notation.js';
 import { decodeTable } from '../fields.js';
 import { ACCEPTED } from './asking.js';
-import { noText, shownFile, wordOf } from './sources.js';
+import { noText } from './looks.js';
+import { shownFile, wordOf } from './sources.js';
 import { Trouble } from './trouble.js';
 import { put } from './writing.js';
 
@@ -54,7 +55,7 @@ export function text(asking) {
 export function bytes(asking) {
   const [file] = asking.files;
   const { parts, isText } = asking.sources.any(file, asking.givenNames, null);
-  if (!isText) throw noText(file, parts[0].bytes);
+  if (!isText) throw noText(shownFile(file), parts[0].bytes);
   const wanted = asking.kind === null ? parts : parts.filter(({ form }) => form === asking.kind);
   if (wanted.length === 0) throw new Trouble(`${shownFile(file)}: there is no ${wordOf(asking.kind)} in this text`);
   if (wanted.length > 1) throw new Trouble(`${shownFile(file)}: say which part is meant: ${wanted.map(({ form }) => `--as ${form}`).join(', ')}`);

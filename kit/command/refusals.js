@@ -4,7 +4,8 @@ import { refusalLine } from '../answers.js';
 import { MEANINGS, explainJournal, explainRefusal, isTableRefusal } from '../explain.js';
 import { originAt, recordLine } from '../notation.js';
 import { traceJournal, traceStimulus } from '../trace.js';
-import { sayLooks, shownFile } from './sources.js';
+import { sayLooks } from './looks.js';
+import { shownFile } from './sources.js';
 
 /** @typedef {import('../types.js').Explanation} Explanation */
 /** @typedef {import('../types.js').Refusal} Refusal */

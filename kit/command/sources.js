@@ -2,8 +2,8 @@
 
 import { FORMS, decodeTable, formOf } from '../fields.js';
 import { listed, plainNames } from '../names.js';
-import { looksLike } from '../looks-like.js';
 import { FORM_WORDS, TEXT_MAX, isText, readText, showMistakes } from '../notation.js';
+import { noText } from './looks.js';
 import { Trouble } from './trouble.js';
 
 /** @typedef {import('../types.js').Form} Form */
@@ -72,7 +72,7 @@ export class Sources {
    */
   names(file) {
     const data = this.read(file);
-    if (!isText(data)) throw noText(file, data);
+    if (!isText(data)) throw noText(shownFile(file), data);
     const text = this.text(file, data, null);
     if (!text.names) throw new Trouble(`${shownFile(file)}: names are taken from a table's text, and there is none`);
     return text.names;
@@ -140,24 +140,6 @@ export class Sources {
   beside(table, forms, as) {
     return table.text ? partsOf(table.file, table.text, forms, as) : [];
   }
-}
-
-/**
- * What bytes look like that are not what they were taken for, and what to do about it; null if that is unknown.
- * @param {Uint8Array} data
- */
-export function sayLooks(data) {
-  const looks = looksLike(data);
-  if (looks === null) return null;
-  const advice = looks.includes('UTF-') ? '; save it as UTF-8' : looks.startsWith('a text') ? '; its first line is one such as: krossvil journal' : '';
-  return `looks like ${looks}${advice}`;
-}
-
-/**
- * @param {string} file @param {Uint8Array} data
- */
-export function noText(file, data) {
-  return new Trouble(`${shownFile(file)} ${sayLooks(data) ?? 'is no text: it does not begin with the word krossvil'}`);
 }
 
 /** @param {string} file */

@@ -29,6 +29,7 @@ export function manual() {
       + 'are not proved.'),
     ...FILES.flatMap((words) => ['.PP', roff(words)]),
     '.SH OPTIONS', ...COMMON.flatMap((option) => ['.TP', `.B ${roff(optionWords(option))}`, roff(OPTIONS[option].says)]),
+    '.TP', `.B ${roff('krossvil --version')}`, 'the version, and the sum of the library, alone or with \\-\\-json as an object',
     '.SH COMMANDS', ...GROUPS.flatMap((group) => Object.keys(COMMANDS).filter((name) => COMMANDS[name].group === group).flatMap(ofCommand)),
     '.SH EXIT STATUS', ...EXITS.flatMap(([code, says]) => ['.TP', `.B ${code}`, roff(says)]),
     '.SH FILES', '.TP', '.I /usr/share/doc/krossvil/examples', 'ready examples',

@@ -43,7 +43,8 @@ test('names of the table on the line are completed, as the shell takes them', as
   const cases = [
     ['react my\\ table.kv --while tr\t', '--while', 'train'], ["react 'my table.kv' --from b\t", '--from', 'busy'],
     ['react ~/my\\ table.kv --from busy,i\t', '--from', 'busy,idle'], ['react my\\ table.kv --while=n\t', '--while=no_train'],
-    ['react my\\ table.kv --from=busy --while=\tt\t', '--from=busy', '--while=train'], ['react --tight my\\ table.kv --while t\t', '--while', 'train'],
+    ['react my\\ table.kv --from=busy --while=\tt\t', '--from=busy', '--while=train'],
+    ['react --tight my\\ table.kv --while t\t', '--while', 'train'],
     ['react table.bin --while i1\t', '--while', 'i1'], ['react table.bin --names my\\ table.kv --while t\t', '--while', 'train'],
     ['react odd.kv --while no\t', '--while', 'no train'], ['react odd.kv --while \\$\t', '--while', '$(touch hacked)'],
     ['react odd.kv --while it\t', '--while', "it's"], ['react odd.kv --while \\"\t', '--while', '"a,b"'],

@@ -46,8 +46,9 @@ test('options that are wrong are named in our own words', async () => {
 
 /** Lines that fail, in every way that there is, and what the object says. */
 const FAILURES = [
-  ['', 2, /no command '--json'/], ['chek classroom.kv', 2, /no command 'chek'/], ['help chek', 2, /no command 'chek'/], ['check', 2, /a file is missing/],
-  ['draw table.bin journal.bin', 2, /too many files/], ['check --foo x', 2, /no option '--foo'/], ['react classroom.kv --moves -1', 2, /from 0 to 32/],
+  ['', 2, /no command '--json'/], ['chek classroom.kv', 2, /no command 'chek'/], ['help chek', 2, /no command 'chek'/],
+  ['check', 2, /a file is missing/], ['draw table.bin journal.bin', 2, /too many files/], ['check --foo x', 2, /no option '--foo'/],
+  ['react classroom.kv --moves -1', 2, /from 0 to 32/],
   ['check none.kv', 2, /no such file/], ['check classroom.kv --names none.kv', 2, /no such file/], ['check wrong.kv', 2, /wrong\.kv:\d+:\d+: /],
   ['check table.bin journal.bin --as jurnal', 2, /did you mean 'journal'\?/], ['explain table.bin', 2, /name a journal too/],
   ['react classroom.kv --while tarin', 2, /did you mean 'train'\?/], ['picture quarry.kv', 2, /with --json give -o FILE/],
@@ -129,7 +130,8 @@ test('a folder stands for the files in it, by their names', () => {
   assert.deepEqual(out.trim().split('\n').map((line) => JSON.parse(line)).map(({ file, answer }) => [file, answer]),
     [['card/a.bin', 'refused'], ['card/b.bin', 'accepted'], ['card/c.bin', 'not asked'], ['card/d.kv', 'accepted']]);
   rmSync(join(card, 'c.bin'));
-  assert.match(here(['check', 'table.bin', 'card', 'card/older', '--plain']).out, /^card\/a\.bin: refused 28 at 76\n[^]*\ncard\/older\/c\.bin: accepted /);
+  assert.match(here(['check', 'table.bin', 'card', 'card/older', '--plain']).out,
+    /^card\/a\.bin: refused 28 at 76\n[^]*\ncard\/older\/c\.bin: accepted /);
   assert.match(here(['check', 'table.bin', 'card/older']).out, /^card\/older\/c\.bin: accepted [^]*1 journal checked, 0 refused\.\n$/);
   assert.match(here(['dwell', 'table.bin', 'card', '--plain']).out, /^refused,"card\/a\.bin",28,76\njournals,2\n/);
   rmSync(join(card, 'older/c.bin'));

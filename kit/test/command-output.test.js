@@ -150,7 +150,8 @@ test('nothing is written where the tool for pictures fails', () => {
 test('a folder that is not there, or is in the place of a file, is named', () => {
   const { shell } = room();
   const cases = [['none/saved.bin', "none/saved.bin: there is no folder 'none'"], ['under', 'under: it is a folder'],
-    ['torn.bin/saved.bin', 'torn.bin/saved.bin: a part of the path is no folder'], ['none/a/saved.bin', "none/a/saved.bin: there is no folder 'none/a'"]];
+    ['torn.bin/saved.bin', 'torn.bin/saved.bin: a part of the path is no folder'],
+    ['none/a/saved.bin', "none/a/saved.bin: there is no folder 'none/a'"]];
   for (const [output, says] of cases) {
     const { code, err } = shell(`krossvil salvage table.bin torn.bin -o ${output}`);
     assert.deepEqual([code, err], [2, `krossvil: ${says}\n`]);
