@@ -34,7 +34,7 @@ export class Asking {
     this.plain = options.plain === true;
     const toOutput = writes && (options.output === undefined || options.output === '-');
     this.terminal = new Terminal(io, { plain: this.plain, beside: toOutput && !this.json });
-    this.sources = new Sources(io);
+    this.sources = new Sources(io, options.output !== undefined);
     this.kind = this.#kind();
     /** @type {Names|null} */
     this.givenNames = options.names === undefined ? null : this.sources.names(options.names);

@@ -4,7 +4,7 @@ import { acceptanceLine, sayAcceptance } from '../answers.js';
 import { decodeTable } from '../fields.js';
 import { counted } from '../names.js';
 import { ACCEPTED, NOT_ASKED, REFUSED } from './asking.js';
-import { eachJournal, journalFiles, named, worstOf } from './many.js';
+import { eachJournal, named, worstOf } from './many.js';
 import { tell, told } from './refusals.js';
 import { JOURNALS, shownFile } from './sources.js';
 
@@ -89,10 +89,13 @@ function sayMany(codes) {
 export function check(asking) {
   const table = asking.table();
   if (tableRefused(asking, table)) return REFUSED;
-  const files = journalFiles(asking);
+  const files = asking.files.slice(1);
   if (files.length === 0) return checkBeside(asking, table);
-  const many = files.length > 1 || files[0] !== asking.files[1];
-  const codes = eachJournal(asking, table, files, (source) => checkOne(asking, table, source, many));
+  let many = files.length > 1;
+  const codes = eachJournal(asking, table, files, (source) => {
+    many ||= source.file !== files[0];
+    return checkOne(asking, table, source, many);
+  });
   if (many && !asking.json) asking.terminal.sentence(sayMany(codes));
   return worstOf(codes);
 }

@@ -29,7 +29,7 @@ const inList = (/** @type {string} */ name) => (name.includes(',') ? `"${name}"`
 function namesIn(io, file, other) {
   if (file === '-') return null;
   try {
-    const sources = new Sources(io);
+    const sources = new Sources(io, false);
     const given = other === undefined ? null : sources.names(other);
     const table = sources.table(file, given);
     return decodeTable(table.bytes, table.names)?.names ?? null;

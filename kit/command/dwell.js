@@ -7,7 +7,7 @@ import { decodeTable } from '../fields.js';
 import { newReport } from '../library.js';
 import { ACCEPTED, REFUSED } from './asking.js';
 import { tableRefused } from './check.js';
-import { eachJournal, journalFiles, named, worstOf } from './many.js';
+import { eachJournal, named, worstOf } from './many.js';
 import { numberOf, themeOf } from './pictures.js';
 import { tell, told } from './refusals.js';
 import { JOURNALS, shownFile } from './sources.js';
@@ -109,7 +109,7 @@ export function dwell(asking) {
     const answer = add(asking, source, journal, numbers);
     return answer.ok ? ACCEPTED : refuse(asking, source, journal, answer);
   };
-  const files = journalFiles(asking);
+  const files = asking.files.slice(1);
   const codes = files.length > 0 ? eachJournal(asking, source, files, act) : named(asking.all(source, JOURNALS, undefined)).map(act);
   const report = reportOf(numbers, table.counts);
   const { output, title } = asking.options;

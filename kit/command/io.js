@@ -11,9 +11,10 @@ import { Trouble } from './trouble.js';
 
 /**
  * @typedef {Object} Io
- * @property {(path: string, limit: number) => Uint8Array} read      `-` is the standard input; no more than the limit is read, and what was
- *                                                                   read may be written over by the next reading
- * @property {(path: string) => string[]|null} list                  the files of a folder; null if it is none
+ * @property {(path: string, limit: number, noted: boolean) => Uint8Array} read   `-` is the standard input; no more than the limit is read,
+ *                                                                   and what was read may be overwritten in memory by the next reading.
+ *                                                                   A file that is noted is never written to
+ * @property {(folder: string) => string[]} list                     its files
  * @property {(outputs: import('./output-files.js').Output[]) => void} write   all of them or none, and none over what was read
  * @property {(data: Uint8Array|string) => void} print               to the standard output
  * @property {(text: string) => void} complain                       to the standard error
@@ -106,14 +107,11 @@ const waiting = new Waiting();
 
 const inputs = new Inputs();
 
-/**
- * @param {string} path  `-` is the standard input
- * @param {number} limit
- */
-function read(path, limit) {
+/** @type {Io['read']} */
+function read(path, limit, noted) {
   const file = path === '-' ? INPUT : openSync(path, 'r');
   try {
-    inputs.note(file, path === '-' ? 'standard input' : path);
+    if (noted) inputs.note(file, path === '-' ? 'standard input' : path);
     return readUpTo(file, limit);
   } finally {
     if (file !== INPUT) closeSync(file);
@@ -122,13 +120,11 @@ function read(path, limit) {
 
 /**
  * The files of a folder by their names: no hidden ones, and no folders, pipes or devices, since those would not end.
- * @param {string} path
- * @returns {string[]|null}
+ * @param {string} folder
  */
-function list(path) {
-  if (path === '-' || !statSync(path, { throwIfNoEntry: false })?.isDirectory()) return null;
-  const names = /** @type {string[]} */ (readdirSync(path)).filter((name) => !name.startsWith('.')).sort();
-  return names.map((name) => join(path, name)).filter((file) => statSync(file, { throwIfNoEntry: false })?.isFile() ?? true);
+function list(folder) {
+  const names = /** @type {string[]} */ (readdirSync(folder)).filter((name) => !name.startsWith('.')).sort();
+  return names.map((name) => join(folder, name)).filter((file) => statSync(file, { throwIfNoEntry: false })?.isFile() ?? true);
 }
 
 /**
@@ -157,8 +153,8 @@ function convert(tool, args, input) {
 
 /** @type {Io} */
 export const realIo = {
-  read: (path, limit) => orTrouble(path === '-' ? 'standard input' : path, () => read(path, limit)),
-  list: (path) => orTrouble(path, () => list(path)),
+  read: (path, limit, noted) => orTrouble(path === '-' ? 'standard input' : path, () => read(path, limit, noted)),
+  list: (folder) => orTrouble(folder, () => list(folder)),
   write,
   print: (data) => waiting.add(data),
   complain(text) {

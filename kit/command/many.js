@@ -21,37 +21,34 @@ function sayTrouble(asking, file, error) {
   return NOT_ASKED;
 }
 
-/**
- * The files of the journals that are named behind the table: a folder stands for those in it.
- * @param {Asking} asking
- */
-export function journalFiles({ io, files }) {
-  return files.slice(1).flatMap((file) => {
-    const inside = io.list(file);
-    if (inside?.length === 0) throw new Trouble(`${file}: there is no file in this folder`);
-    return inside ?? [file];
-  });
-}
-
 /** @param {number[]} codes */
 export const worstOf = (codes) => codes.reduce((worst, code) => Math.max(worst, code), ACCEPTED);
 
 /**
- * The exit code of each journal, and of each file that could not be read.
- * @param {Asking} asking @param {TableSource} table @param {string[]} files
- * @param {(source: Source) => number} act
+ * @param {Asking} asking @param {TableSource} table @param {string} file @param {(source: Source) => number} act
+ * @returns {number[]}
+ */
+function codesOf(asking, table, file, act) {
+  try {
+    return named(asking.all(table, JOURNALS, file, true)).map((source) => act(source));
+  } catch (error) {
+    const isFolder = error instanceof Trouble && error.code === 'EISDIR';
+    const inside = isFolder ? asking.io.list(file) : [];
+    if (inside.length > 0) return eachJournal(asking, table, inside, act);
+    return [sayTrouble(asking, file, isFolder ? new Trouble(`${file}: there is no file in this folder`) : error)];
+  }
+}
+
+/**
+ * The exit code of each journal, and of each file that could not be read. A folder stands for the files in it.
+ * @param {Asking} asking @param {TableSource} table @param {string[]} files @param {(source: Source) => number} act
+ * @returns {number[]}
  */
 export function eachJournal(asking, table, files, act) {
-  /** @type {number[]} */
-  const codes = [];
-  for (const [k, file] of files.entries()) {
-    try {
-      for (const source of named(asking.all(table, JOURNALS, file, true))) codes.push(act(source));
-    } catch (error) {
-      codes.push(sayTrouble(asking, file, error));
-    }
-    asking.terminal.progress(k + 1, files.length);
-  }
+  const codes = files.flatMap((file, k) => {
+    asking.terminal.progress(k, files.length);
+    return codesOf(asking, table, file, act);
+  });
   asking.terminal.clearProgress();
   return codes;
 }

@@ -39,9 +39,10 @@ const mostOf = (/** @type {'table'|Form} */ form) => (form === 'table' ? TABLE_R
 export const wordOf = (kind) => (kind === 'table' ? 'table' : FORM_WORDS[kind]);
 
 export class Sources {
-  /** @param {Io} io */
-  constructor(io) {
+  /** @param {Io} io @param {boolean} noted  what is read is not to be written over */
+  constructor(io, noted) {
     this.io = io;
+    this.noted = noted;
     this.inputRead = false;
   }
 
@@ -51,7 +52,7 @@ export class Sources {
   read(file, brief = false) {
     if (file === '-' && this.inputRead) throw new Trouble('the standard input can be read once only');
     if (file === '-') this.inputRead = true;
-    const data = this.io.read(file, LIMIT);
+    const data = this.io.read(file, LIMIT, this.noted);
     return brief ? data : new Uint8Array(data);
   }
 

@@ -35,6 +35,6 @@ export function orTrouble(path, act) {
     return act();
   } catch (error) {
     if (error instanceof Trouble) throw error;
-    throw new Trouble(`${path}: ${getSystemErrorMessage(error)}`);
+    throw new Trouble(`${path}: ${getSystemErrorMessage(error)}`, /** @type {any} */ (error).code);
   }
 }

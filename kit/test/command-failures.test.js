@@ -135,7 +135,7 @@ test('a folder stands for the files in it, by their names', () => {
   assert.match(here(['check', 'table.bin', 'card/older']).out, /^card\/older\/c\.bin: accepted [^]*1 journal checked, 0 refused\.\n$/);
   assert.match(here(['dwell', 'table.bin', 'card', '--plain']).out, /^refused,"card\/a\.bin",28,76\njournals,2\n/);
   rmSync(join(card, 'older/c.bin'));
-  assert.deepEqual(here(['check', 'table.bin', 'card/older']), { code: 2, out: '', err: 'krossvil: card/older: there is no file in this folder\n' });
+  assert.deepEqual(here(['check', 'table.bin', 'card/older']), { code: 2, out: '', err: 'card/older: there is no file in this folder\n' });
   assert.equal(here(['explain', 'table.bin', 'card']).err, 'krossvil: card: it is a folder\n');
 });
 

@@ -66,7 +66,8 @@ test(`check, explain, compare and left on ${3 * ROUNDS} journals: number and pla
       assert.ok(answer.ok ? line.startsWith('accepted end=') : line === `refused ${answer.number} at ${answer.place}`, line);
       same(await ask(['explain', 'table', 'journal', '--as', form, '--json'], files), answer, `explain ${k} ${form}`);
       same(await ask(['left', 'table', 'journal', '--as', form, '--json'], files), answer, `left ${k} ${form}`);
-      assert.equal((await ask(['compare', 'table', 'journal', '--as', form], files)).code, answer.ok ? 0 : 1);
+      const compared = await ask(['compare', 'table', 'journal', '--as', form, '--json'], files);
+      assert.deepEqual([compared.code, compared.lines.length > 0], [answer.ok ? 0 : 1, !answer.ok]);
     }
   }
   assert.ok(refused > ROUNDS && refused < 3 * ROUNDS, `${refused} refused`);
