@@ -34,7 +34,7 @@ function sayEnd(trace) {
   const written = form === 'short' ? 0 : record.written ?? 0;
   const fits = journal.length + recordBytes(form, 'end', written, 0).length <= FORMS[form].max;
   const whole = record.place + record.length === journal.length;
-  return fits && whole ? [`In a text this line ends it: ${recordLine({ ...record, kind: 'end', written, value: null }, names)}`] : [];
+  return fits && whole ? [`In a text the line '${recordLine({ ...record, kind: 'end', written, value: null }, names)}' ends it.`] : [];
 }
 
 /**

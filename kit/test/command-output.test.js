@@ -3,7 +3,7 @@
 import assert from 'node:assert/strict';
 import { spawnSync } from 'node:child_process';
 import {
-  chmodSync, linkSync, mkdirSync, mkdtempSync, readFileSync, readdirSync, readlinkSync, rmSync, statSync, symlinkSync, writeFileSync,
+  chmodSync, linkSync, mkdirSync, mkdtempSync, readFileSync, readdirSync, readlinkSync, realpathSync, rmSync, statSync, symlinkSync, writeFileSync,
 } from 'node:fs';
 import { tmpdir } from 'node:os';
 import { join } from 'node:path';
@@ -148,10 +148,13 @@ test('nothing is written where the tool for pictures fails', () => {
 });
 
 test('a folder that is not there, or is in the place of a file, is named', () => {
-  const { shell } = room();
+  const { folder, at, shell } = room();
+  symlinkSync('circle.bin', at('circle.bin'));
+  symlinkSync('none/saved.bin', at('far.bin'));
   const cases = [['none/saved.bin', "none/saved.bin: there is no folder 'none'"], ['under', 'under: it is a folder'],
     ['torn.bin/saved.bin', 'torn.bin/saved.bin: a part of the path is no folder'],
-    ['none/a/saved.bin', "none/a/saved.bin: there is no folder 'none/a'"]];
+    ['none/a/saved.bin', "none/a/saved.bin: there is no folder 'none/a'"],
+    ['circle.bin', 'circle.bin: its links go round in a circle'], ['far.bin', `far.bin: there is no folder '${realpathSync(folder)}/none'`]];
   for (const [output, says] of cases) {
     const { code, err } = shell(`krossvil salvage table.bin torn.bin -o ${output}`);
     assert.deepEqual([code, err], [2, `krossvil: ${says}\n`]);

@@ -136,7 +136,7 @@ function cut(name, kind, count) {
     return kind === 'stimulus' ? traceStimulus(library, { ...given, stimulus: records.bytes })
       : traceJournal(library, { ...given, journal: records.bytes, form: kind });
   };
-  const [, line] = /In a text this line ends it: (.*)$/.exec(explainJournal(read(text)).sentences.join(' ')) ?? [];
+  const [, line] = /In a text the line '(.*)' ends it\.$/.exec(explainJournal(read(text)).sentences.join(' ')) ?? [];
   return { line, ended: line === undefined ? null : read(`${text}${line}\n`), records: lines.length - 1 };
 }
 
