@@ -95,6 +95,7 @@ export function toldObject(told) {
   return {
     file: source.file, answer: 'refused', number: refusal.number, place: refusal.place, meaning: MEANINGS.get(refusal.number) ?? '', says,
     ...(explanation.slipName ? { slip: explanation.slipName } : {}),
+    ...(explanation.either ? { either: explanation.either } : {}),
     ...(explanation.wanted === null ? {} : { wanted: explanation.wanted }),
     ...(origin ? { line: origin.line, column: origin.column } : {}),
   };

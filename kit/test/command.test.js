@@ -48,6 +48,10 @@ test('a refusal is shown at its line, with sentences and the usual slip', async 
   assert.deepEqual([told.answer, told.number, told.place, told.slip, told.wanted, told.line], ['refused', 28, 76, undefined, 0, Number(line)]);
   assert.match((await ask(['check', 'slip-hold-reached.kv'], FILES)).out, /The usual slip: the hold was taken to end when it is reached/);
   assert.equal((await ask(['check', 'slip-hold-reached.kv', '--json'], FILES)).lines[0].slip, 'hold-reached');
+  const records = 'input train; 1 poll train; 2 test free; 2 tick busy; 2 change no_train; 4 poll no_train; 4 test held; 5 tick busy; '
+    + '7 poll no_train; 7 test free; 8 tick idle; 8 end';
+  const two = { 'two.kv': `${sample('classroom').split('\nkrossvil ')[0]}\nkrossvil journal\n${records.replaceAll('; ', '\n')}\n` };
+  assert.deepEqual((await ask(['check', 'two.kv', '--json'], two)).lines[0].either, ['hold-reached', 'wrong-instant']);
   const fromBytes = await ask(['check', 'table.bin', 'changed.bin', '--names', 'classroom.kv'], FILES);
   assert.match(fromBytes.out, /8 {2}test {3}free +# at byte 76\n.*state 'busy'/);
   assert.equal(fromBytes.err, 'Names are those of classroom.kv.\n');
