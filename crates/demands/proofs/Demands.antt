@@ -1,13 +1,11 @@
 -- Acceptance and demand 3, as specs/Demands states them.
 use mathlib.Core.Path.{_≡_, refl, sym, _∙_}
 use mathlib.Core.List.{List, [], _∷_, _++_}
-use mathlib.Core.Bool.{true, false}
-use mathlib.Core.Logic.{_⊎_, inl, inr}
-use Prim.Native.Nat.{ℕ, _+_, _≤_}
-use native.Mathlib.Omega.{arith}
+use Prim.Native.Nat.{ℕ, _^_, _≤_}
+use borrow.Author.Tests.{lt-ltb}
 use lib.ListN.{length}
 use Rattle.wire.specs.Encode.{Bytes}
-use Rattle.sets.specs.Sets.{member}
+use Rattle.sets.proofs.Members.{below-limit}
 use Rattle.table.specs.declared.Table.{Table}
 use Rattle.table.specs.Table.{outputOf, WellFormed}
 use Rattle.table.specs.Encode as tables
@@ -31,23 +29,20 @@ use Rattle.journal.specs.declared.Numbers.{Numbers}
 use Rattle.journal.specs.declared.Answer.the-variants.{Accepted}
 use Rattle.journal.specs.Check.{checkOf}
 use Rattle.reaction.specs.declared.Answer.the-variants.{Reacts}
-use Rattle.reaction.specs.Reaction.{weight, reactOf}
-use Rattle.reaction.specs.Meaning.{Slowest, Reaction}
-use Rattle.machine.proofs.Watches.{no-regions}
+use Rattle.reaction.specs.Reaction.{nextSet, reactionTime, reactionOf, reactOf}
+use Rattle.reaction.proofs.Meaning.{only-answer}
 use Rattle.reaction.proofs.Entry.{reacted}
+use Rattle.moves.proofs.Fitting.{Fits, fits}
 use Rattle.runs.specs.Accepted as runs
-use Rattle.runs.specs.Reaction.{Weights}
-use Rattle.runs.specs.Slots as slots
+use Rattle.runs.specs.Automaton.{RunOf}
 use Rattle.runs.proofs.Automaton.{machine-is-automaton}
-use Rattle.runs.proofs.Soon.{not-too-soon, not-too-soon-by}
-use Rattle.runs.proofs.OneMove.{one-move}
 use Rattle.laws.specs.Journals.{JournalOf, AcceptedRun}
-use Rattle.laws.proofs.InTime.{calculated-weights, moves-in-time}
-use Rattle.moves.proofs.Fitting.{fits}
 use Rattle.laws.proofs.Moves.{answered}
 use Rattle.laws.proofs.Tables.{holds-that-table}
 use Rattle.laws.proofs.Journals.{ends-at, left-end, under, accepts-exactly, checks-exactly}
+use Rattle.demands.specs.Runs.{Calculated}
 use Rattle.demands.specs.Demands.{Holds, HoldsRun, LeftTold, LongestTold, AcceptedIsRun, LeftIsMost, LongestIsCycle, AcceptedJournal, NotTooSoon, NotTooSoonBy, NotTooLate, NotTooLateByMoves}
+use Rattle.demands.proofs.Runs.{runs-not-too-soon, runs-not-too-soon-by, runs-not-too-late, runs-not-too-late-by-moves}
 
 -- ---- Acceptance
 
@@ -180,50 +175,44 @@ module _ {table journal : List ℕ} {t : Table} {input : ℕ} {records : List Re
   pub read : (tableAnswer table ≡ Passes) × (tableIn table ≡ t)
   read = holds-that-table table t (j .holds .well-formed) (j .holds .table-is)
 
-  -- Where there are timers the calculator gives no time.
-  pub plain : (P A c target : ℕ) → reactOf table P A ≡ Reacts c target → t .timers ≡ 0
-  plain P A c target e = rw (read .1) at (reacted table P A c target e .no-timers)
+  pub run : RunOf t input records T
+  run = machine-is-automaton t (j .holds .well-formed) input records T .0 accepted
 
-  pub calculated : {P A c target : ℕ} → reactOf table P A ≡ Reacts c target → Reaction t P A c target
-  calculated {P} {A} {c} {target} e = rw (read .1) at (reacted table P A c target e .means)
+  -- Where the calculator gives a time and a target, they are those of the table.
+  pub calculated : {P A c target : ℕ} → reactOf table P A ≡ Reacts c target → Calculated t P A c target
+  calculated {P} {A} {c} {target} e =
+      let ok = j .holds .well-formed in
+      let given = reacted table P A c target e in
+      record {
+        well-formed = ok;
+        no-timers = rw (read .1) at (given .no-timers);
+        answer = sym (only-answer t ok P A (Reacts c target) (rw (read .1) at (given .means)));
+      }
 
 -- ---- Demand 3
 
-pub accepted-not-too-soon-by : NotTooSoonBy
-accepted-not-too-soon-by table journal t input records T j k real = not-too-soon-by t (j .holds .well-formed) k real input records T (accepted j)
-
 pub accepted-not-too-soon : NotTooSoon
-accepted-not-too-soon table journal t input records T j = not-too-soon t input records T (accepted j)
+accepted-not-too-soon table journal t input records T j = runs-not-too-soon t (j .holds .well-formed) input records T (run j)
 
--- A time that covers E and weights that are large enough is not too late.
-pub in-time : {t : Table} {P A time target : ℕ} → WellFormed t → t .timers ≡ 0 → Reaction t P A time target →
-    (w : ℕ → ℕ) → Weights t (member A) w → (c : ℕ) → t .bound ≤ c →
-    ((p : ℕ) → member P p ≡ true → member target p ≡ false → t .bound + w p ≤ c + 1) →
-    slots.NotTooLate t (member P) (member A) (member target) c
-in-time ok none r w large c covers-bound covers = one-move (record {
-  no-regions = no-regions ok none;
-  bound-positive = ok .bound .0;
-  weights = large;
-  has = λ p a x y. r .next .has p a (x, y);
-  inside = λ q n. let comes = r .next .only q n in rw (comes .is) at (r .next .inside (comes .state) (comes .input) (comes .pair));
-  covers-bound = covers-bound;
-  covers = covers;
-})
-
-covers-bound : {t : Table} {P A target time : ℕ} → (time ≡ t .bound) ⊎ Slowest t P A target time → t .bound ≤ time
-covers-bound (inl e) = omega arith
-covers-bound (inr slowest) = omega (arith, slowest .is)
+pub accepted-not-too-soon-by : NotTooSoonBy
+accepted-not-too-soon-by table journal t input records T j k real = runs-not-too-soon-by t (j .holds .well-formed) k real input records T (run j)
 
 pub accepted-not-too-late : NotTooLate
-accepted-not-too-late table journal t input records T j P A c target e =
-    let ok = j .holds .well-formed in
-    let r = calculated j e in
-    in-time ok (plain j P A c target e) r (weight t A) (calculated-weights t A (ok .bound .0) (r .inputs)) c (covers-bound (r .reached))
-    (λ p x y. omega (arith, r .covers p x y)) input records T (accepted j)
+accepted-not-too-late table journal t input records T j P A c target e = runs-not-too-late t P A c target (calculated j e) input records T (run j)
+
+-- Where several moves are answered, one move is.
+calculated-by : {t : Table} {P A n sums path : ℕ} → Fits t P A n sums path → Calculated t P A (reactionTime t P A) (nextSet t P A)
+unfolding reactionOf
+calculated-by {t} {P} {A} ok = record {
+  well-formed = ok .all .table;
+  no-timers = ok .no-timers;
+  answer =
+      rw (lt-ltb P (2 ^ t .states) (below-limit P (t .states) (ok .all .states)), lt-ltb A (2 ^ t .inputs) (below-limit A (t .inputs) (ok .all .inputs)), ok .search);
+}
 
 pub accepted-not-too-late-by-moves : NotTooLateByMoves
 accepted-not-too-late-by-moves table journal t input records T j P A n sums path r e =
     let same = read j .1 in
     let answer = answered table P A n sums path r e in
     let ok = rw same at (fits table P A n sums path (answer .0)) in
-    rw (answer .1, same) (moves-in-time ok input records T (accepted j))
+    rw (answer .1, same) (runs-not-too-late-by-moves t P A _ _ (calculated-by ok) n input records T (run j))

@@ -2,18 +2,18 @@
 use mathlib.Core.Path.{_≡_, refl, sym, _∙_}
 use mathlib.Core.List.{List, [], _∷_, _++_}
 use mathlib.Core.Bool.{Bool, true, false, not}
-use Prim.Native.Nat.{ℕ, zero, suc, _+_, _-_, _*_, _<_, _≤_}
+use Prim.Native.Nat.{ℕ, zero, suc, _+_, _-_, _<_}
 use native.Mathlib.Omega.{arith}
 use borrow.Author.Tests.{ltb-true}
 use lib.Dec.{lit<}
-use Rattle.wire.specs.Choice.{_<?_, _and_, if_then_else_}
+use Rattle.wire.specs.Choice.{_<?_, _and_}
 use Rattle.wire.specs.Encode.{Bytes, field}
 use Rattle.wire.specs.Field.{fieldAt}
 use Rattle.wire.proofs.Choice.{never, both}
 use Rattle.sets.specs.Sets.{member, some, setOf, largest}
 use Rattle.sets.proofs.Members.{some-if}
 use Rattle.table.specs.declared.Table.{Table}
-use Rattle.table.specs.Table.{holdOf, WellFormed}
+use Rattle.table.specs.Table.{WellFormed}
 use Rattle.table.specs.Answer.{_or-else_, _and-then_}
 use Rattle.table.specs.Entries.{entriesFrom, values}
 use Rattle.table.specs.Encode as tables
@@ -38,14 +38,15 @@ use Rattle.journal.specs.Check.{numbersOf, answerOf}
 use Rattle.reaction.specs.Reaction.{nextSet, weightOf, reactionTime, firstFrom, firstLeaving, reactionOf, forHolds, reactOf}
 use Rattle.runs.specs.Slots.{slot, inputAt, stateAt}
 use Rattle.tight.specs.declared.Answer.the-variants.{Reacts}
-use Rattle.tight.specs.Tight.{fromHold, needOf, tightTime, reactTightOf}
-use Rattle.tight.proofs.Entry.{entry-gives, entry-covers}
-use Rattle.laws.proofs.InTime.{weighing, weights}
+use Rattle.tight.specs.Tight.{needOf, tightTime, reactTightOf}
+use Rattle.tight.proofs.Entry.{entry-gives}
 use Rattle.laws.proofs.Journals.{ends-at, under}
-use Rattle.demands.specs.Demands.{AcceptedJournal, StaysIn}
+use Rattle.demands.specs.Runs.{StaysIn}
+use Rattle.demands.specs.Demands.{AcceptedJournal}
 use Rattle.demands.specs.Cases.{classroomTable, classroom}
 use Rattle.demands.specs.Tight.{TightNotTooLate, LongerIsEnough, TooShort, Least, recordsOfTwelve, journalOfTwelve, recordsOfFive, journalOfFive, LeastTimes}
-use Rattle.demands.proofs.Demands.{accepted, read, plain, calculated, in-time}
+use Rattle.demands.proofs.Runs.{runs-not-too-late-tight}
+use Rattle.demands.proofs.Demands.{read, run, calculated}
 
 -- Slots that fulfil the premise for the longer time fulfil that for the shorter one, from later on.
 pub longer-is-enough : LongerIsEnough
@@ -56,28 +57,10 @@ longer-is-enough table P A target c longer l enough journal t input records T j 
 
 -- ---- Demand 3 with the tight time
 
--- In whole ticks a weight of hold + 2E - 1 is large enough.
-abbrev snug : Table → ℕ → ℕ
-snug t q = holdOf t q + 2 * t .bound - 1
-
-snug-fits : (t : Table) (A c p : ℕ) → needOf t A p ≤ c → t .bound + weighing t A (snug t) p ≤ c + 1
-unfolding needOf
-snug-fits t A c p = go (fromHold t A p)
-  where
-    go : (b : Bool) → (if b then holdOf t p + 3 * t .bound - 2 else 2 * t .bound - 1) ≤ c →
-        t .bound + (if b then snug t p else t .bound) ≤ c + 1
-    go true l = omega arith
-    go false l = omega arith
-
 pub tight-not-too-late : TightNotTooLate
 tight-not-too-late table P A time target tight e journal t input records T j =
-    let given = entry-gives table P A time target tight e .0 in
-    let covers = entry-covers table P A time target tight e in
-    let same = read j .1 in
-    let ok = j .holds .well-formed in
-    let r = calculated j given in
-    in-time ok (plain j P A time target given) r (weighing t A (snug t)) (weights t A (snug t) (ok .bound .0) (λ q. omega arith) (r .inputs))
-    tight (rw same at (covers .bound)) (λ p x y. snug-fits t A tight p (rw same at (covers .needs p x y))) input records T (accepted j)
+    let given = entry-gives table P A time target tight e in
+    rw (given .1, read j .1) (runs-not-too-late-tight t P A time target (calculated j (given .0)) input records T (run j))
 
 -- ---- A journal that the machine goes through
 

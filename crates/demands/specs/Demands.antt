@@ -1,14 +1,13 @@
--- Acceptance and demand 3, for any bytes of a table and of a journal; proofs/Demands proves each.
+-- Acceptance and demand 3, for any bytes of a table and of a journal; proofs/Demands proves each. What demand 3 says of their records stands in
+-- specs/Runs, where it is said of every run.
 use mathlib.Core.Path.{_≡_}
 use mathlib.Core.List.{List, [], _∷_, _++_}
-use mathlib.Core.Bool.{true}
 use mathlib.Core.Logic.{_↔_}
-use Prim.Native.Nat.{ℕ, _+_, _<_, _≤_}
+use Prim.Native.Nat.{ℕ, _<_, _≤_}
 use lib.ListN.{length}
 use Rattle.wire.specs.Encode.{Bytes}
-use Rattle.sets.specs.Sets.{member}
 use Rattle.table.specs.declared.Table.{Table}
-use Rattle.table.specs.Table.{holdOf, delays, lengthOf, inRegion, timerDelays, WellFormed}
+use Rattle.table.specs.Table.{WellFormed}
 use Rattle.table.specs.Encode as tables
 use Rattle.records.specs.declared.Record.{Record}
 use Rattle.records.specs.declared.Record.the-variants.{End}
@@ -28,8 +27,8 @@ use Rattle.moves.specs.declared.Reaction.{Reaction}
 use Rattle.moves.specs.declared.Answer.the-variants as moves
 use Rattle.moves.specs.Moves.{movesOf}
 use Rattle.runs.specs.Automaton.{RunOf}
-use Rattle.runs.specs.Slots.{inputAt, stateAt, EnteredAt, regionEntry}
 use Rattle.laws.specs.Journals.{JournalOf}
+use Rattle.demands.specs.Runs.{KeepsHolds, KeepsTimer, InTime}
 
 -- ---- Acceptance
 
@@ -93,35 +92,19 @@ pub record AcceptedJournal (table journal : List ℕ) (t : Table) (input : ℕ) 
   pub accepted : Accepts table journal T
   pub holds : Holds table journal t input records T
 
--- q is entered at e, e ≤ k ≤ e + hold, k < T, and each slot from e to k - 1 has an input delayed in q. Then slot k has state q.
+-- Not too soon, by the hold of the state ..
 abbrev pub NotTooSoon : Type 0
 NotTooSoon =
     (table journal : List ℕ) (t : Table) (input : ℕ) (records : List Record) (T : ℕ) → AcceptedJournal table journal t input records T →
-    (q e k : ℕ) → EnteredAt t input records q e → e ≤ k → k ≤ e + holdOf t q → k < T →
-    ((j : ℕ) → e ≤ j → j < k → delays t q (inputAt t input records j) ≡ true) →
-    stateAt t input records k ≡ q
+    KeepsHolds t input records T
 
--- The same for each timer k: q of its region is entered at f, the region's last entry up to f is at e, f ≤ n ≤ e + length, n < T, and each
--- slot from f to n - 1 has an input that the timer delays in q. Then slot n has state q.
+-- .. and by each timer k.
 abbrev pub NotTooSoonBy : Type 0
 NotTooSoonBy =
     (table journal : List ℕ) (t : Table) (input : ℕ) (records : List Record) (T : ℕ) → AcceptedJournal table journal t input records T →
-    (k : ℕ) → k < t .timers →
-    (q f e n : ℕ) → inRegion t k q ≡ true → EnteredAt t input records q f → regionEntry t k f records ≡ e → f ≤ n → n ≤ e + lengthOf t k → n < T →
-    ((j : ℕ) → f ≤ j → j < n → timerDelays t k q (inputAt t input records j) ≡ true) →
-    stateAt t input records n ≡ q
+    (k : ℕ) → k < t .timers → KeepsTimer t k input records T
 
--- Each slot from s to s + c - 1 has its state in P and its input in A.
-abbrev pub StaysIn : Table → (input : ℕ) → List Record → (P A s c : ℕ) → Type 0
-StaysIn t input records P A s c =
-    (k : ℕ) → s ≤ k → k < s + c → (member P (stateAt t input records k) ≡ true) × (member A (inputAt t input records k) ≡ true)
-
--- s + c < T, and that is so. Then slot s + c has its state in the target.
-abbrev pub InTime : Table → (input : ℕ) → List Record → (T P A c target : ℕ) → Type 0
-InTime t input records T P A c target =
-    (s : ℕ) → s + c < T → StaysIn t input records P A s c → member target (stateAt t input records (s + c)) ≡ true
-
--- So it is with every time and target that the calculator gives for P and A, for one move ..
+-- Not too late, with every time and target that the calculator gives for P and A, for one move ..
 abbrev pub NotTooLate : Type 0
 NotTooLate =
     (table journal : List ℕ) (t : Table) (input : ℕ) (records : List Record) (T : ℕ) → AcceptedJournal table journal t input records T →

@@ -1,3 +1,4 @@
+pub mod Runs
 pub mod Demands
 pub mod Contracts
 pub mod Host

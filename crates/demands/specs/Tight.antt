@@ -2,7 +2,7 @@
 -- less would be too short. Nothing is claimed of other tables: there a shorter time may be enough. proofs/Tight proves each.
 use mathlib.Core.Path.{_≡_}
 use mathlib.Core.List.{List, [], _∷_}
-use mathlib.Core.Bool.{true, false}
+use mathlib.Core.Bool.{false}
 use Prim.Native.Nat.{ℕ, _+_, _-_, _<_, _≤_}
 use Rattle.sets.specs.Sets.{member}
 use Rattle.table.specs.declared.Table.{Table}
@@ -11,7 +11,8 @@ use Rattle.records.specs.declared.Record.the-variants.{Change, Poll, Test, Tick
 use Rattle.runs.specs.Slots.{stateAt}
 use Rattle.tight.specs.declared.Answer.the-variants.{Reacts}
 use Rattle.tight.specs.Tight.{reactTightOf}
-use Rattle.demands.specs.Demands.{AcceptedJournal, StaysIn, InTime}
+use Rattle.demands.specs.Runs.{StaysIn, InTime}
+use Rattle.demands.specs.Demands.{AcceptedJournal}
 use Rattle.demands.specs.Cases.{classroom}
 
 -- ---- Demand 3 with the tight time

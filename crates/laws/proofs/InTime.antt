@@ -13,7 +13,7 @@ use Rattle.table.specs.Table.{holdOf, delays, nextOf}
 use Rattle.machine.proofs.Watches.{no-regions}
 use Rattle.reaction.specs.Reaction.{weightOf, weight}
 use Rattle.reaction.specs.Meaning.{Known, Pairs}
-use Rattle.reaction.proofs.Meaning.{AllExist, stays}
+use Rattle.reaction.proofs.Meaning.{AllExist}
 use Rattle.tight.specs.Tight.{fromHold}
 use Rattle.moves.specs.Moves.{nextTimes, most, sumsOf, largestSum, reactionOver}
 use Rattle.runs.specs.Reaction.{Weights, Reach, there, via, Suffices}
@@ -23,7 +23,6 @@ use Rattle.laws.specs.Paths.{OnPath}
 use Rattle.laws.proofs.Rounds.{on-path, ahead-most}
 use Rattle.laws.proofs.Paths.{at-most}
 use Rattle.laws.proofs.Targets.{moves-on, shrinks, within}
-use Rattle.moves.proofs.Fitting.{Fits}
 
 -- Weights of E, and of h where the calculator's weight comes from a hold, are large enough if h is at least hold + 2E - 1.
 abbrev pub weighing : Table → ℕ → (ℕ → ℕ) → ℕ → ℕ
@@ -87,7 +86,6 @@ module _ {t : Table} {P A : ℕ} (all : AllExist t P A) (inside : (p a : ℕ) �
         from p m true o = there o
         from p m false o = weaken (reaches n 0 p (omega arith) m) _ (omega (arith, at-most all N n p (record { is-in = m; outside = o })))
 
-pub moves-in-time : {t : Table} {P A n sums path : ℕ} → Fits t P A n sums path →
-    NotTooLate t (member P) (member A) (member (reactionOver t P A n .target)) (reactionOver t P A n .time)
-unfolding reactionOver
-moves-in-time {n = n} ok = not-too-late (suffices (ok .all) (stays (ok .all) (ok .search)) n (ok .no-timers))
+    pub moves-in-time : NotTooLate t (member P) (member A) (member (reactionOver t P A n .target)) (reactionOver t P A n .time)
+    unfolding reactionOver
+    moves-in-time = not-too-late suffices
