@@ -27,7 +27,7 @@ use Rattle.machine.proofs.Left.{left-until-free, left-is-most}
 use Rattle.machine.proofs.Longest.{longest-is-cycle}
 use Rattle.journal.specs.declared.Numbers.{Numbers}
 use Rattle.journal.specs.declared.Answer.the-variants.{Accepted}
-use Rattle.journal.specs.Check.{checkOf}
+use Rattle.journal.specs.Check.{answerIn, checkOf}
 use Rattle.reaction.specs.declared.Answer.the-variants.{Reacts}
 use Rattle.reaction.specs.Reaction.{nextSet, reactionTime, reactionOf, reactOf}
 use Rattle.reaction.proofs.Meaning.{only-answer}
@@ -39,17 +39,17 @@ use Rattle.runs.proofs.Automaton.{machine-is-automaton}
 use Rattle.laws.specs.Journals.{JournalOf, AcceptedRun}
 use Rattle.laws.proofs.Moves.{answered}
 use Rattle.laws.proofs.Tables.{holds-that-table}
-use Rattle.laws.proofs.Journals.{ends-at, left-end, under, accepts-exactly, checks-exactly}
+use Rattle.laws.proofs.Journals.{ends-at, left-end, under, run-accepted, accepts-exactly, checks-exactly}
 use Rattle.demands.specs.Runs.{Calculated}
-use Rattle.demands.specs.Demands.{Holds, HoldsRun, LeftTold, LongestTold, AcceptedIsRun, LeftIsMost, LongestIsCycle, AcceptedJournal, NotTooSoon, NotTooSoonBy, NotTooLate, NotTooLateByMoves}
+use Rattle.demands.specs.Demands.{Accepts, Holds, HoldsRun, LeftTold, LongestTold, AcceptedIsRun, LeftIsMost, LongestIsCycle, AcceptedJournal, NotTooSoon, NotTooSoonBy, NotTooLate, NotTooLateByMoves}
 use Rattle.demands.proofs.Runs.{runs-not-too-soon, runs-not-too-soon-by, runs-not-too-late, runs-not-too-late-by-moves}
 
 -- ---- Acceptance
 
 -- The run of an accepted journal without its bytes and its numbers, and back.
-run-accepted : {t : Table} {s : List ℕ} {n : Numbers} (a : AcceptedRun form.journal t s n) →
+of-run : {t : Table} {s : List ℕ} {n : Numbers} (a : AcceptedRun form.journal t s n) →
     runs.Accepted t (a .input) (a .records ++ End (n .end) ∷ []) (n .end)
-run-accepted {t} {n = n} a = record {
+of-run {t} {n = n} a = record {
   last = a .last;
   runs = a .runs;
   ends = sym (ends-at t (n .end) (start (t .initial) (a .input)) (a .last) (a .records) (a .runs));
@@ -116,7 +116,7 @@ module _ (table journal : List ℕ) (table-bytes : Bytes table) (bytes : Bytes j
     input = found .3 .input;
     records = all;
     holds = held;
-    run = machine-is-automaton (found .0) (found .1) (found .3 .input) all (n .end) .0 (run-accepted (found .3));
+    run = machine-is-automaton (found .0) (found .1) (found .3 .input) all (n .end) .0 (of-run (found .3));
   }
 
   left-told : LeftTold table journal n
@@ -138,20 +138,28 @@ module _ (table journal : List ℕ) (table-bytes : Bytes table) (bytes : Bytes j
     longest = longest-of (found .0) (found .3 .input) all (found .3 .last) (found .3 .runs) (n .longest) (found .3 .longest-is);
   }
 
+-- A run in bytes is accepted under its table, with its end.
+pub run-taken : {table journal : List ℕ} {T : ℕ} (r : HoldsRun table journal T) →
+    (n : Numbers) × (n .end ≡ T) × (answerIn form.journal (r .t) journal ≡ Accepted n)
+run-taken {table} {journal} {T} r =
+    let h = r .holds in
+    let records = h .before-end ++ End T ∷ [] in
+    let a = machine-is-automaton (r .t) (h .well-formed) (r .input) records T .1 (rw (h .records-are) at (r .run)) in
+    let accepts = accepts-run (r .short) (h .journal-is) a in
+    (_, refl, run-accepted form.journal refl (r .t) journal _ accepts)
+
+pub holds-accepted : {table journal : List ℕ} {T : ℕ} → HoldsRun table journal T → Accepts table journal T
+holds-accepted {table} {journal} r =
+    let taken = run-taken r in
+    record {
+      numbers = taken .0;
+      answer = sym (under table journal (r .t) (r .holds .well-formed) (r .holds .table-is)) ∙ taken .2;
+      end-is = taken .1;
+    }
+
 pub accepted-is-run : AcceptedIsRun
-accepted-is-run table journal table-bytes bytes T = (
-  λ a. rw (← a .end-is) (to-run table journal table-bytes bytes (a .numbers) (a .answer)),
-  λ r.
-      let h = r .holds in
-      let records = h .before-end ++ End T ∷ [] in
-      let a = machine-is-automaton (r .t) (h .well-formed) (r .input) records T .1 (rw (h .records-are) at (r .run)) in
-      let accepts = accepts-run (r .short) (h .journal-is) a in
-      record {
-        numbers = _;
-        answer = checks-exactly table journal table-bytes bytes _ .1 (r .t, h .well-formed, h .table-is, accepts);
-        end-is = refl;
-      },
-)
+accepted-is-run table journal table-bytes bytes T =
+    (λ a. rw (← a .end-is) (to-run table journal table-bytes bytes (a .numbers) (a .answer)), holds-accepted)
 
 pub left-is-the-most : LeftIsMost
 left-is-the-most table journal table-bytes bytes n answer = left-told table journal table-bytes bytes n answer
@@ -170,7 +178,7 @@ module _ {table journal : List ℕ} {t : Table} {input : ℕ} {records : List Re
       let answer = under table journal t (h .well-formed) (h .table-is) ∙ a .answer in
       let run = accepts-exactly form.journal refl journal-recovers t journal (j .bytes) (a .numbers) .0 answer in
       let one = records-are-one form.journal (inTable form.journal t) (t .inputs) journal _ _ _ _ T _ (h .journal-is) (run .written) in
-      rw (← one .0, ← one .1, a .end-is, ← h .records-are) at (run-accepted run)
+      rw (← one .0, ← one .1, a .end-is, ← h .records-are) at (of-run run)
 
   pub read : (tableAnswer table ≡ Passes) × (tableIn table ≡ t)
   read = holds-that-table table t (j .holds .well-formed) (j .holds .table-is)

@@ -38,7 +38,7 @@ pub record IsAccepted (a : Answer) : Type 0 where
   pub n : Numbers
   pub is : a ≡ answer.Accepted n
 
-not-zero : (reply : Reply) → (numberIn reply =? 0) ≡ false → (room : ℕ) → codeOf (told reply room) ≡ 0 → ⊥
+pub not-zero : (reply : Reply) → (numberIn reply =? 0) ≡ false → (room : ℕ) → codeOf (told reply room) ≡ 0 → ⊥
 unfolding told
 not-zero reply h room e = go (room <? 4 * length (valuesIn reply)) e
   where

@@ -225,7 +225,7 @@ writes-accepted t good s input es end st j e =
 
 -- ---- Any accepted journal with that stimulus
 
-accepted-runs : (t : Table) (j : List ℕ) (input : ℕ) (rs : List Record) (end : ℕ) → JournalOf t j input rs end →
+pub accepted-runs : (t : Table) (j : List ℕ) (input : ℕ) (rs : List Record) (end : ℕ) → JournalOf t j input rs end →
     (n : Numbers) → answerIn form.journal t j ≡ answer.Accepted n →
     (last : Machine) × Runs t (start (t .initial) input) (rs ++ End end ∷ []) last
 unfolding checks.answerOf
@@ -241,7 +241,7 @@ accepted-runs t j input rs end is n e = go (runOver form.journal t j) refl e
     go (walk.refused refusal place) r f = apart cc
 
 -- The runtime writes it, if the stimulus is within its limit.
-writes : (t : Table) (s j : List ℕ) → length s ≤ longestStimulus → AcceptedFor t s j → madeUnder t s ≡ journal j
+pub writes : (t : Table) (s j : List ℕ) → length s ≤ longestStimulus → AcceptedFor t s j → madeUnder t s ≡ journal j
 unfolding madeOf encode
 writes t s j short a =
     let r = accepted-runs t j (a .input) (a .records) (a .end) (a .for .journal) (a .numbers) (a .accepted) in
@@ -321,7 +321,7 @@ succeeds-exactly t good s bytes room size = (succeeded t good s bytes room size,
 -- ---- The entry
 
 module _ (table s : List ℕ) where
-  runs-under : (t : Table) → WellFormed t → table ≡ tables.encode t → madeUnder t s ≡ runOf table s
+  pub runs-under : (t : Table) → WellFormed t → table ≡ tables.encode t → madeUnder t s ≡ runOf table s
   unfolding runOf
   runs-under t good is =
       let h = holds-that-table table t good is in
