@@ -1,6 +1,9 @@
+pub mod Statements
 pub mod Runs
 pub mod Demands
+pub mod Tight
+pub mod Calculators
 pub mod Contracts
+pub mod Entries
 pub mod Host
 pub mod Cases
-pub mod Tight

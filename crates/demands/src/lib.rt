@@ -1,6 +1,6 @@
 // What docs/RULES.md, "The demands", asks of the entries together, from their bytes: acceptance is a run of the timed automaton,
-// demand 3 holds in the slots of every accepted journal, and the proved cases come out. The statements are in specs/, the proofs
-// in proofs/. The two functions call the library: their contracts are what a host program may rely on.
+// demand 3 holds in the slots of every run and of every accepted journal, and the proved cases come out. specs/Statements lists the
+// statements by the sentences of the demands; the proofs are in proofs/. The two functions call the library: their contracts are what a host program may rely on.
 ghost use Prim.Native.Nat.{_≤_};
 ghost use lib.ListN.{length};
 ghost use Rattle.demands.specs.Host.{JudgesRuns, PerformsRuns};
