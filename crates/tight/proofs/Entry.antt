@@ -1,7 +1,7 @@
 -- The entry on bytes: what the calculator refuses is passed on, and where it gives a time the bound is in the bytes.
 use mathlib.Core.Path.{_≡_, refl, sym, ap, _∙_}
 use mathlib.Core.List.{List, [], _∷_}
-use mathlib.Core.Bool.{true, false}
+use mathlib.Core.Bool.{false}
 use mathlib.Core.Logic.{_⊎_, inl, inr}
 use Prim.Native.Nat.{ℕ, _≤_}
 use native.Mathlib.Omega.{arith}
@@ -9,12 +9,9 @@ use types.Run.{OneOf, miss}
 use denote.Enum.Declared.{tagOf}
 use lib.ListN.{length}
 use Rattle.wire.proofs.Apart.{apart}
-use Rattle.wire.proofs.Choice.{and-both}
-use Rattle.sets.specs.Sets.{member}
 use Rattle.table.specs.Table.{largestBound}
 use Rattle.table.specs.Check.{countsIn, boundIn, tableWith, tableIn}
 use Rattle.table.proofs.Stands.{table-stands, HeadStands}
-use Rattle.table.proofs.WellFormed.{well-formed}
 use Rattle.reaction.specs.declared.Answer as reaction′
 use Rattle.reaction.specs.declared.Answer.the-variants as reaction
 use Rattle.reaction.specs.Reaction.{reactOf}
@@ -22,9 +19,9 @@ use Rattle.reaction.specs.Meaning.{Slowest}
 use Rattle.reaction.proofs.Answer as ReactionT
 use Rattle.reaction.proofs.Entry.{Reacted, reacted}
 use Rattle.tight.specs.declared.Answer.the-variants.{Reacts, Refused}
-use Rattle.tight.specs.Tight.{needOf, tightTime, beside, reactTightOf}
+use Rattle.tight.specs.Tight.{tightTime, beside, reactTightOf}
 use Rattle.tight.specs.Below.{tightened}
-use Rattle.tight.proofs.Time.{tight-is-tightened, tight-covers, tight-at-least}
+use Rattle.tight.proofs.Time.{tight-is-tightened}
 
 -- What a `let .. else` on `Reacts` passes on.
 passed-on : (tight : ℕ) (a : reaction′.Answer) → OneOf (1 ∷ 2 ∷ 3 ∷ 4 ∷ 5 ∷ []) (tagOf ReactionT.the-type a) → Refused a ≡ beside tight a
@@ -80,19 +77,3 @@ entry-gives s P A time target tight e = go (tightTime (tableIn s) P A) (reactOf 
     go n reaction.UnknownState f = apart cc
     go n reaction.UnknownInput f = apart cc
     go n (reaction.LeavesStates at) f = apart cc
-
--- It covers E, and what each state of P outside the target needs.
-pub record Covers (s : List ℕ) (P A target tight : ℕ) : Type 0 where
-  pub bound : tableIn s .bound ≤ tight
-  pub needs : (p : ℕ) → member P p ≡ true → member target p ≡ false → needOf (tableIn s) A p ≤ tight
-
-pub entry-covers : (s : List ℕ) (P A time target tight : ℕ) → reactTightOf s P A ≡ Reacts time target tight → Covers s P A target tight
-entry-covers s P A time target tight e =
-    let given = entry-gives s P A time target tight e in
-    let r = reacted s P A time target (given .0) in
-    let some-bound = well-formed s (r .passes) .bound .0 in
-    record {
-      bound = rw (given .1) (tight-at-least (tableIn s) P A some-bound);
-      needs = λ p in-P out.
-          rw (given .1) (tight-covers (tableIn s) P A some-bound p (r .means .states p in-P) (and-both (member P p) _ in-P (rw (← r .target-is, out))));
-    }
