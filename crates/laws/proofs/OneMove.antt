@@ -68,9 +68,9 @@ refusal-kept : (r : Reply) → (numberIn r =? 0) ≡ false → withoutLength r �
 refusal-kept (gives values) e = never (sym e)
 refusal-kept (refuses number place) e = refl
 
-module _ (P A sums path : ℕ) (row : 32 ≤ sums) (byte : 1 ≤ path) (t : Table) (good : WellFormed t) where
+module _ (P A sums path : ℕ) (t : Table) (row : t .states ≤ sums) (byte : 1 ≤ path) (good : WellFormed t) where
   room : ((sums <? 1 * t .states) or (path <? 2 * 1 - 1)) ≡ false
-  room = rw (le-ltb sums (1 * t .states) (omega (arith, good .states)), le-ltb path 1 byte)
+  room = rw (le-ltb sums (1 * t .states) (omega arith), le-ltb path 1 byte)
 
   under-table : reply (judge t P A 1 sums path) t P A ≡ reaction.replyOf (reactionOf t P A)
   unfolding judge reactionOf
@@ -107,5 +107,5 @@ module _ (P A sums path : ℕ) (row : 32 ≤ sums) (byte : 1 ≤ path) (t : Tabl
 pub one-move : OneMove
 unfolding movesOf judgeOf reactOf underTable
 one-move s P A sums path row byte =
-    decided (tableAnswer s) (λ e. rw e (by-timers P A sums path row byte (tableIn s) (well-formed s e)))
+    decided (tableAnswer s) (λ e. rw e (by-timers P A sums path (tableIn s) (row e) byte (well-formed s e)))
     (λ r other. rw r (refusal-kept (table-answer.replyOf (tableAnswer s)) r))

@@ -6,29 +6,34 @@ use Prim.Native.Nat.{ℕ, _≤_}
 use native.Mathlib.Omega.{arith}
 use lib.ListN.{length}
 use Rattle.wire.specs.Made.{made}
+use Rattle.wire.proofs.Apart.{apart}
 use Rattle.wire.proofs.Made.{owed-made}
 use Rattle.table.specs.declared.Table.{Table}
 use Rattle.table.specs.Table.{WellFormed}
+use Rattle.table.specs.Check.{tableIn}
+use Rattle.table.proofs.WellFormed.{well-formed}
 use Rattle.records.specs.declared.Record.{Record}
 use Rattle.records.specs.declared.Record.the-variants.{End}
 use Rattle.records.specs.Record.{timeOf}
 use Rattle.records.specs.Form.{Form, journal, stamped, longestStamped}
 use Rattle.records.specs.Reading.{anyRecord}
 use Rattle.records.specs.Encode.{encode, placed, Inner, WrittenAs}
-use Rattle.records.proofs.Written.{reads-written, stamp-tells}
+use Rattle.records.proofs.Written.{journal-recovers, reads-written, stamp-tells}
 use Rattle.records.proofs.Says.{in-time}
 use Rattle.records.proofs.Lengths.{NoEnd, inner-no-end, encode-length}
 use Rattle.records.proofs.Reading.{opening-at}
 use Rattle.machine.specs.Walk.{inTable}
 use Rattle.machine.proofs.Gaps.{TellsGaps, gaps-within-bound, inner-restated}
 use Rattle.journal.specs.declared.Numbers.{Numbers}
+use Rattle.journal.specs.declared.Answer.the-variants.{Accepted}
+use Rattle.journal.proofs.Accepted.{passed}
 use Rattle.stamped.specs.declared.Answer.the-variants.{Written, BufferTooShort}
 use Rattle.stamped.specs.Stamped.{listed, listOf, madeOf, readOf}
 use Rattle.stamped.proofs.Over.{opened-with}
 use Rattle.stamped.proofs.Lengths.{read-short}
 use Rattle.laws.specs.Journals.{AcceptedRun}
 use Rattle.laws.specs.Stamps.{stampedForm, StampedComesBack, ReadsNoLonger}
-use Rattle.laws.proofs.Journals.{checks-exactly}
+use Rattle.laws.proofs.Journals.{accepts-exactly}
 
 stamps-tell : TellsGaps stamped
 stamps-tell = record { valued = refl; small = λ before time low high late. omega arith; timed = stamp-tells }
@@ -94,12 +99,14 @@ module _ (t : Table) (good : WellFormed t) (j : List ℕ) (n : Numbers) (run : A
       ∙ rw (read .1, list-placed stamped 4 (run .records) (n .end)) (ap (λ l. made (Written (length l)) l) long)
 
 pub stamped-comes-back : StampedComesBack
-stamped-comes-back table j buffer table-bytes bytes n e room =
-    let p = checks-exactly table j table-bytes bytes n .0 e in
-    let run = p .3 in
-    let is = ap readOf (stamped-is (p .0) (p .1) j n run) ∙ comes-back (p .0) (p .1) j n run in
+stamped-comes-back table j buffer bytes n e room =
+    let t = tableIn table in
+    let p = passed journal table j (Accepted n) (λ a f. apart cc) e in
+    let good = well-formed table (p .0) in
+    let run = accepts-exactly journal refl journal-recovers t j bytes n .0 (p .1) in
+    let is = ap readOf (stamped-is t good j n run) ∙ comes-back t good j n run in
     let owed = owed-made BufferTooShort _ _ j buffer is room _ refl in
-    (rw (stamped-is (p .0) (p .1) j n run) (short (p .0) (p .1) j n run), sym (owed .0), sym (owed .1))
+    (rw (stamped-is t good j n run) (short t good j n run), sym (owed .0), sym (owed .1))
 
 pub reads-no-longer : ReadsNoLonger
 reads-no-longer s bytes answer e = rw e at (read-short s)

@@ -9,7 +9,8 @@ use Rattle.wire.specs.Reply.{Reply, gives, refuses}
 use Rattle.sets.specs.Sets.{member}
 use Rattle.table.specs.declared.Table.{Table}
 use Rattle.table.specs.Table.{nextOf, WellFormed}
-use Rattle.table.specs.Check.{tableIn}
+use Rattle.table.specs.declared.Answer.the-variants.{Passes}
+use Rattle.table.specs.Check.{tableAnswer, tableIn}
 use Rattle.reaction.specs.Answer as reaction
 use Rattle.reaction.specs.Reaction.{reactOf}
 use Rattle.reaction.specs.Meaning.{Known, Pairs}
@@ -50,8 +51,8 @@ abbrev pub withoutLength : Reply → Reply
 withoutLength (gives values) = gives (take 2 values)
 withoutLength (refuses number place) = refuses number place
 
--- With room for a row of sums and for one byte, what is replied for one move is, but for the length of the path, what the calculator of one
--- move replies: the same time and target, or a refusal with the same number and place.
+-- With room for a row of sums, one for each state of a table that passes, and for one byte, what is replied for one move is, but for the
+-- length of the path, what the calculator of one move replies: the same time and target, or a refusal with the same number and place.
 abbrev pub OneMove : Type 0
-OneMove = (table : List ℕ) (P A sums path : ℕ) → 32 ≤ sums → 1 ≤ path →
+OneMove = (table : List ℕ) (P A sums path : ℕ) → (tableAnswer table ≡ Passes → tableIn table .states ≤ sums) → 1 ≤ path →
     withoutLength (moves.replyOf (movesOf table P A 1 sums path)) ≡ reaction.replyOf (reactOf table P A)

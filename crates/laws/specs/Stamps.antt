@@ -30,7 +30,7 @@ stampedForm j = field 0x10 (byteAt j 3 ∷ []) ++ bytesFrom stamped 0 (recordsIn
 -- An accepted journal has a stamped form of at most 49,152 bytes. Read back into any buffer that has room for it, it is itself, byte for
 -- byte, and past it the buffer is as it was.
 abbrev pub StampedComesBack : Type 0
-StampedComesBack = (table j buffer : List ℕ) → Bytes table → Bytes j → (n : Numbers) → checkOf table j ≡ Accepted n → length j ≤ length buffer →
+StampedComesBack = (table j buffer : List ℕ) → Bytes j → (n : Numbers) → checkOf table j ≡ Accepted n → length j ≤ length buffer →
     (length (stampedForm j) ≤ longestStamped)
     × (answerIn BufferTooShort (readOf (stampedForm j)) (length buffer) ≡ Written (length j))
     × (bufferIn (readOf (stampedForm j)) buffer ≡ j ++ drop (length j) buffer)
