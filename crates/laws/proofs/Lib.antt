@@ -15,6 +15,7 @@ pub mod Shorts
 pub mod Fronts
 pub mod Cuts
 pub mod Salvages
+pub mod SalvageRoom
 pub mod Reports
 pub mod Rounds
 pub mod Paths

@@ -1,21 +1,24 @@
 -- Under every table a journal of 65,531 bytes is made: of 2,730 cycles, in which every event has seven bytes.
-use mathlib.Core.Path.{_≡_, refl, ap, _∙_}
+use mathlib.Core.Path.{_≡_, refl, sym, ap, _∙_}
 use mathlib.Core.List.{List, [], _∷_, _++_, map}
-use mathlib.Core.Bool.{true}
+use mathlib.Core.Bool.{true, false}
 use Prim.Native.Nat.{ℕ, zero, suc, _+_, _*_, _/_, _%_, _<_, _≤_}
 use native.Mathlib.Omega.{arith}
-use borrow.Author.Tests.{lt-ltb, le-leb}
+use borrow.Author.Tests.{lt-ltb, le-leb, ltb-true, leb-true}
 use lib.ListN.{length}
+use Rattle.wire.specs.Choice.{_<?_, _≤?_, _and_}
 use Rattle.wire.specs.Encode.{Bytes, bytes32, field}
 use Rattle.wire.specs.Made.{refused}
+use Rattle.wire.proofs.Choice.{never, both}
 use Rattle.table.specs.declared.Table.{Table}
 use Rattle.table.specs.declared.Answer.the-variants.{Passes}
+use Rattle.table.specs.Table.{WellFormed}
 use Rattle.table.specs.Check.{tableAnswer, tableIn}
 use Rattle.table.proofs.Under.{under-passes}
 use Rattle.table.proofs.WellFormed.{well-formed}
 use Rattle.records.specs.declared.Record.{Record}
-use Rattle.records.specs.declared.Record.the-variants.{Poll, Test, Tick, End}
-use Rattle.records.specs.Record.{timeOf, latest}
+use Rattle.records.specs.declared.Record.the-variants.{Change, Poll, Test, Tick, End}
+use Rattle.records.specs.Record.{timeOf, isEnd, latest}
 use Rattle.records.specs.Form as form
 use Rattle.records.specs.Form.{stimulus}
 use Rattle.records.specs.Encode.{bytesOf, bytesFrom, encode, kept, Writable, Inner}
@@ -27,6 +30,7 @@ use Rattle.machine.proofs.Steps.{taken-step, verdict-small}
 use Rattle.runtime.specs.declared.Answer.the-variants.{TableRefused}
 use Rattle.runtime.specs.Run.{journal, madeOf, madeUnder, runOf}
 use Rattle.machine.specs.RunsOver.{RunsOver}
+use Rattle.laws.specs.Journals.{JournalOf}
 use Rattle.laws.specs.Runtimes.{StimulusOf, eventFor, LongestIsMade}
 use Rattle.machine.proofs.RunsOver.{runs-over}
 use Rattle.laws.proofs.Never28.{filled-agrees}
@@ -53,10 +57,40 @@ small-bytes none i = omega arith
 small-bytes (byte b h more) zero = h
 small-bytes (byte b h more) (suc i) = small-bytes more i
 
-small-field : {rest : List ℕ} (tag time : ℕ) → tag < 256 → time ≤ latest → Small rest → Small (tag ∷ 0 ∷ 4 ∷ bytes32 time ++ rest)
-small-field tag time h low more =
-    byte tag h (byte 0 (omega arith) (byte 4 (omega arith)
+small-timed : {rest : List ℕ} (tag size time : ℕ) → tag < 256 → size < 256 → time ≤ latest → Small rest → Small (tag ∷ 0 ∷ size ∷ bytes32 time ++ rest)
+small-timed tag size time h few low more =
+    byte tag h (byte 0 (omega arith) (byte size few
     (byte (time / 16777216) (omega arith) (byte (time / 65536 % 256) (omega arith) (byte (time / 256 % 256) (omega arith) (byte (time % 256) (omega arith) more))))))
+
+small-field : {rest : List ℕ} (tag time : ℕ) → tag < 256 → time ≤ latest → Small rest → Small (tag ∷ 0 ∷ 4 ∷ bytes32 time ++ rest)
+small-field tag time h low more = small-timed tag 4 time h (omega arith) low more
+
+-- So are those of every journal.
+module _ (t : Table) (good : WellFormed t) where
+  small-valued : {rest : List ℕ} (tag time value limit : ℕ) → tag < 256 → limit ≤ 32 → ((time ≤? latest) and (value <? limit)) ≡ true → Small rest →
+      Small (tag ∷ 0 ∷ 5 ∷ bytes32 time ++ value ∷ rest)
+  small-valued tag time value limit h few e more =
+      let p = both (time ≤? latest) (value <? limit) e in
+      small-timed tag 5 time h (omega arith) (leb-true time latest (p .0)) (byte value (omega (arith, ltb-true value limit (p .1))) more)
+
+  small-journal : (before : ℕ) (rs : List Record) (end : ℕ) → Inner form.journal (inTable form.journal t) before rs end →
+      Small (bytesFrom form.journal before (rs ++ End end ∷ []))
+  unfolding bytesFrom bytesOf field
+  small-journal before [] end w = small-field 0x1F end (omega arith) (leb-true end latest (w .in-range)) none
+  small-journal before (r ∷ rs) end (no-end, w, inner) = go r (w .in-range) no-end (small-journal (timeOf r) rs end inner)
+    where
+      go : {rest : List ℕ} (r : Record) → inTable form.journal t r ≡ true → isEnd r ≡ false → Small rest → Small (bytesOf form.journal before r ++ rest)
+      go (Change time input) e other more = small-valued 0x11 time input (t .inputs) (omega arith) (good .inputs .1) e more
+      go (Poll time input) e other more = small-valued 0x12 time input (t .inputs) (omega arith) (good .inputs .1) e more
+      go (Test time verdict) e other more = small-valued 0x13 time verdict 2 (omega arith) (omega arith) e more
+      go (Tick time state) e other more = small-valued 0x14 time state (t .states) (omega arith) (good .states .1) e more
+      go (End time) e other more = never (sym other)
+
+  pub journal-bytes : (j : List ℕ) (input : ℕ) (rs : List Record) (end : ℕ) → JournalOf t j input rs end → Bytes j
+  unfolding encode field
+  journal-bytes j input rs end w =
+      let opened = byte 0x10 (omega arith) (byte 0 (omega arith) (byte 1 (omega arith) (byte input (omega (arith, w .opens, good .inputs .1)) (small-journal 0 rs end (w .inner))))) in
+      rw (w .is) (small-bytes opened)
 
 module _ (end : ℕ) (early : end ≤ latest) where
   small : (before k n : ℕ) → k + n ≡ end → Small (bytesFrom stimulus before (cycles k n ++ End end ∷ []))

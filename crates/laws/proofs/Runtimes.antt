@@ -278,7 +278,7 @@ fitting j room size e = go (room <? length j) refl e
         (same, omega arith)
 
 module _ (t : Table) (good : WellFormed t) (s : List ℕ) (bytes : Bytes s) where
-  accepted-for : (j : List ℕ) → madeUnder t s ≡ journal j → AcceptedFor t s j
+  pub accepted-for : (j : List ℕ) → madeUnder t s ≡ journal j → AcceptedFor t s j
   accepted-for j e =
       let k = keeps-the-stimulus t good s bytes j e in
       let st = stimulus-of t s j (k .0) (k .1) (k .2) (k .3) in

@@ -3,15 +3,17 @@ use mathlib.Core.Path.{_≡_, refl, sym, ap, _∙_}
 use mathlib.Core.List.{List, [], _∷_, _++_}
 use mathlib.Core.Bool.{Bool, true, false}
 use mathlib.Core.Logic.{_⊎_, inl, inr}
-use Prim.Native.Nat.{ℕ, suc, _+_, _-_, _≤_}
+use Prim.Native.Nat.{ℕ, suc, _+_, _-_, _<_, _≤_}
 use native.Mathlib.Omega.{arith}
 use borrow.Author.Tests.{le-ltb, ltb-false, leb-true}
-use lib.ListN.{length, take, drop}
+use lib.ListN.{length, take, drop, take-append-drop}
 use lib.Seq.{length-take-le, take-at, drop-at}
 use Rattle.wire.specs.Choice.{_<?_, _≤?_, _=?_, if_then_else_}
+use Rattle.wire.specs.Field.{byteAt}
 use Rattle.wire.specs.Encode.{Bytes, bytes32, field}
 use Rattle.wire.specs.Made.{Made, refused, made, answerIn, bufferIn}
 use Rattle.wire.proofs.Apart.{apart}
+use Rattle.wire.proofs.Bytes.{byte-written, field-written}
 use Rattle.wire.proofs.Choice.{both}
 use Rattle.table.specs.declared.Table.{Table}
 use Rattle.table.specs.declared.Answer.the-variants.{Passes}
@@ -25,9 +27,13 @@ use Rattle.records.specs.declared.Opening.the-variants as opening
 use Rattle.records.specs.Record.{latest}
 use Rattle.records.specs.Refusal.{numberOf}
 use Rattle.records.specs.Form.{journal, longestJournal}
-use Rattle.records.specs.Reading.{openingOf, Items, itemsOf}
+use Rattle.records.specs.declared.Known.the-variants as known
+use Rattle.records.specs.Reading.{lengthFits, openingOf, Items, itemsOf}
+use Rattle.records.proofs.Fields.{known-is}
 use Rattle.records.proofs.Places.{refusal-numbered}
-use Rattle.records.proofs.Reading.{OpeningAt, opening-at, found-room}
+use Rattle.records.proofs.Lengths.{inner-no-end, encode-length}
+use Rattle.records.proofs.Reading.{opening-input, OpeningAt, opening-at, found-room}
+use Rattle.records.proofs.Written.{journal-recovers, opening-read}
 use Rattle.machine.specs.declared.Machine.{Machine}
 use Rattle.machine.specs.Machine.{start, after}
 use Rattle.machine.specs.Walk.{inTable, Walk, ended, stopped, walk, ran, ranFrom, recordsRun, runOver}
@@ -40,8 +46,9 @@ use Rattle.salvage.specs.declared.Answer.{Answer}
 use Rattle.salvage.specs.declared.Answer.the-variants.{Salvaged, TableRefused, TooLong, Refused, BufferTooShort}
 use Rattle.salvage.specs.Salvage.{Cut, cutAt, firstCut, lastCut, cutAfter, cutOver, unchanged, madeBy, opened, salvageUnder, salvageOf}
 use Rattle.salvage.proofs.Reaching.{OneTaken, reaches}
-use Rattle.laws.specs.Salvages.{SoundTick, ComesBack, Sound, SalvagesSoundly}
-use Rattle.machine.proofs.RunsOver.{runs-over}
+use Rattle.machine.specs.RunsOver.{RunsOver}
+use Rattle.machine.proofs.RunsOver.{over-runs, runs-over}
+use Rattle.laws.specs.Salvages.{resultSize, SoundTick, ComesBack, Sound, SalvagesSoundly, Salvageable, sizeMade, Succeeds, SalvagesExactly}
 use Rattle.laws.proofs.Fronts.{Front, front-begins, front-more, closed-length, front-closed}
 use Rattle.laws.proofs.Cuts.{items-follow, none-lost, Last, last-tick}
 
@@ -126,7 +133,7 @@ module _ (t : Table) (s : List ℕ) (input : ℕ) where
 
     -- The end may come there, and nothing else is needed for a journal.
     runs-to-the-cut : (cut : Cut) (rest : Resting cut) →
-        runOver journal t (resultOf cut) ≡ ran input (rest .front .records ++ End (cut .time) ∷ []) (after t (rest .machine) (End (cut .time)))
+        RunsOver journal t (resultOf cut) input (rest .front .records ++ End (cut .time) ∷ []) (after t (rest .machine) (End (cut .time)))
     runs-to-the-cut cut rest =
         let m = rest .machine in
         let ends = taken-step t m (End (cut .time)) (record {
@@ -136,8 +143,7 @@ module _ (t : Table) (s : List ℕ) (input : ℕ) where
           is-settled = refl;
           agreed = refl;
         }) in
-        runs-over journal t (resultOf cut) input _ _
-        (front-closed t s input (cut .bytes) m (rest .front) (rest .within) (cut .time) (opens .in-range) (omega (arith, rest .low)) (rest .early) ends)
+        front-closed t s input (cut .bytes) m (rest .front) (rest .within) (cut .time) (opens .in-range) (omega (arith, rest .low)) (rest .early) ends
 
 -- ---- What is made
 
@@ -159,7 +165,7 @@ module _ (table : List ℕ) (passes : tableAnswer table ≡ Passes) where
     unfolding answerOf
     accepted-as = check-is s ∙ ap (answerOf own) through
 
-    unchanged-as : salvageOf table s ≡ unchanged s
+    pub unchanged-as : salvageOf table s ≡ unchanged s
     unfolding salvageUnder opened
     unchanged-as =
         let h = went-through journal own s input taken last through in
@@ -211,7 +217,7 @@ module _ (table : List ℕ) (passes : tableAnswer table ≡ Passes) where
     closed-sound x place stops =
         let taken = resting .front .records ++ End (cut .time) ∷ [] in
         let last = after own (resting .machine) (End (cut .time)) in
-        let through = runs-to-the-cut own s input bytes opens cut resting in
+        let through = runs-over journal own (resultOf own s input cut) input taken last (runs-to-the-cut own s input bytes opens cut resting) in
         let long = length-take-le (cut .bytes) s (resting .within) in
         let run = sym (opened-with journal own s short (openingOf journal (own .inputs) s) refl input is) ∙ ap (ranFrom input) stops in
         record {
@@ -231,45 +237,94 @@ module _ (table : List ℕ) (passes : tableAnswer table ≡ Passes) where
           again = comes-back _ input taken last through;
         }
 
-    closed-size : (x : Refusal) → length (resultOf own s input cut) ≡ (if numberOf x =? 0 then cut .bytes else cut .bytes + 7)
+    closed-size : (x : Refusal) → length (resultOf own s input cut) ≡ resultSize (cut .bytes) (numberOf x)
     closed-size x = rw (refusal-numbered x) (closed-length own s input (cut .bytes) (resting .machine) (resting .front) (resting .within) (cut .time))
+
+-- ---- The opening field
+
+opens-with : (s : List ℕ) (input inputs : ℕ) → input < inputs → take 4 s ≡ field 0x10 (input ∷ []) → openingOf journal inputs s ≡ opening.Input input
+unfolding lengthFits
+opens-with s input inputs h e =
+    let there : s ≡ field 0x10 (input ∷ []) ++ drop 4 s = sym (take-append-drop 4 s) ∙ ap (λ l. l ++ drop 4 s) e in
+    let f = field-written s (drop 4 s) (input ∷ []) 0 0x10 1 refl (omega arith) there in
+    let input-is : byteAt s 3 ≡ input = byte-written s _ 3 (f .holds) 3 0 refl in
+    let stands = known-is 0x10 4 5 s 0 0x10 1 (record { whole = f .whole; fits = refl }) in
+    sym (opening-input 0x10 4 5 inputs s (known.Field 0x10 1) stands 0x10 1 refl refl input (sym input-is) h)
 
 -- ---- The entry
 
+-- In 65,536 bytes there is room for 8,190 records between the opening field and the end.
+run-length : (t : Table) (s : List ℕ) (input : ℕ) (taken : List Record) (last : Machine) → RunsOver journal t s input taken last → length s ≤ 65531
+run-length t s input taken last over =
+    let none = inner-no-end journal (inTable journal t) 0 (over .said) (over .end) (over .written .inner) in
+    omega (arith, over .short, ap length (over .written .is), encode-length journal refl input (over .said) (over .end) none)
+
 module _ (table s : List ℕ) where
-  -- Where bytes are made, they are sound, and as many as the report says.
+  -- Where bytes are made, the journal can be salvaged; they are sound, and as many as the report says, but not many.
+  record Reported (a : Answer) (result : List ℕ) : Type 0 where
+    can : Salvageable table s
+    kept : ℕ
+    dropped : ℕ
+    number : ℕ
+    place : ℕ
+    is : a ≡ Salvaged kept dropped number place
+    sound : Sound table s kept dropped number place result
+    long : length result ≡ resultSize kept number
+    few : length result ≤ 65531
+
   abbrev Fine : Made Answer → Type 0
   Fine (refused a) = (kept dropped number place : ℕ) → a ≡ Salvaged kept dropped number place → ⊥
-  Fine (made a result) = (kept dropped number place : ℕ) → a ≡ Salvaged kept dropped number place →
-      Sound table s kept dropped number place result × (length result ≡ (if number =? 0 then kept else kept + 7))
-
-  as-reported : (k d n p : ℕ) (result : List ℕ) → Sound table s k d n p result → length result ≡ (if n =? 0 then k else k + 7) →
-      Fine (made (Salvaged k d n p) result)
-  as-reported k d n p result sound long kept dropped number place e =
-      let e₁ : k ≡ kept = cc in
-      let e₂ : d ≡ dropped = cc in
-      let e₃ : n ≡ number = cc in
-      let e₄ : p ≡ place = cc in
-      rw (← e₁, ← e₂, ← e₃, ← e₄) (sound, long)
+  Fine (made a result) = Reported a result
 
   under : Bytes s → tableAnswer table ≡ Passes → Fine (salvageUnder (tableIn table) s)
-  unfolding salvageUnder opened
+  unfolding salvageUnder opened field
   under bytes passes = sized (longestJournal <? length s) refl
     where
       t : Table
       t = tableIn table
 
-      walked : length s ≤ longestJournal → (input : ℕ) → openingOf journal (t .inputs) s ≡ opening.Input input → (w : Walk) →
+      walked : Salvageable table s → length s ≤ longestJournal → (input : ℕ) → openingOf journal (t .inputs) s ≡ opening.Input input → (w : Walk) →
           walk journal t (from t s input) (items t s input) ≡ w → Fine (madeBy s (lastOf t s input) w)
-      walked short input is (ended taken last) ends =
+      walked can short input is (ended taken last) ends =
           let through = goes-through journal t s input taken last (record { short = short; opens = is; walks = ends }) in
-          as-reported (length s) 0 0 0 s (whole-sound table passes s input taken last through) refl
-      walked short input is (stopped x place) ends =
-          as-reported _ _ _ _ _ (closed-sound table passes s bytes short input is x place ends) (closed-size table passes s bytes short input is x)
+          record {
+            can = can;
+            kept = length s;
+            dropped = 0;
+            number = 0;
+            place = 0;
+            is = refl;
+            sound = whole-sound table passes s input taken last through;
+            long = refl;
+            few = run-length t s input taken last (over-runs journal t s input taken last journal-recovers bytes through);
+          }
+      walked can short input is (stopped x place) ends =
+          let cut = lastOf t s input in
+          let opens = opening-at 0x10 4 5 (t .inputs) s input is in
+          record {
+            can = can;
+            kept = cut .bytes;
+            dropped = length s - cut .bytes;
+            number = numberOf x;
+            place = place;
+            is = refl;
+            sound = closed-sound table passes s bytes short input is x place ends;
+            long = closed-size table passes s bytes short input is x;
+            few = run-length t _ input _ _ (runs-to-the-cut t s input bytes opens cut (at-rest t s input bytes opens));
+          }
 
       begins : length s ≤ longestJournal → (o : Opening) → openingOf journal (t .inputs) s ≡ o → Fine (opened t s o)
       begins short (opening.Refused refusal) is = λ k d n p e. apart cc
-      begins short (opening.Input input) is = walked short input is _ refl
+      begins short (opening.Input input) is =
+          let opens = opening-at 0x10 4 5 (t .inputs) s input is in
+          let can : Salvageable table s = record {
+            passes = passes;
+            short = short;
+            input = input;
+            known = opens .in-range;
+            opens = ap (take 4) (opening-read 0x10 (t .inputs) s bytes input opens);
+          } in
+          walked can short input is _ refl
 
       sized : (b : Bool) → (longestJournal <? length s) ≡ b → Fine (if b then refused TooLong else opened t s (openingOf journal (t .inputs) s))
       sized true e = λ k d n p f. apart cc
@@ -281,18 +336,67 @@ module _ (table s : List ℕ) where
 
   succeeded : (buffer : List ℕ) (kept dropped number place : ℕ) (m : Made Answer) → Fine m →
       answerIn BufferTooShort m (length buffer) ≡ Salvaged kept dropped number place →
-      Sound table s kept dropped number place (take (if number =? 0 then kept else kept + 7) (bufferIn m buffer))
+      Sound table s kept dropped number place (take (resultSize kept number) (bufferIn m buffer)) × Salvageable table s × (sizeMade m ≤ length buffer)
   unfolding answerIn bufferIn
   succeeded buffer kept dropped number place (refused a) fine e = absurd (fine kept dropped number place e)
-  succeeded buffer kept dropped number place (made a result) fine e = go (length buffer <? length result) e
+  succeeded buffer kept dropped number place (made a result) fine e = go (length buffer <? length result) refl e
     where
-      go : (b : Bool) → (if b then BufferTooShort else a) ≡ Salvaged kept dropped number place →
-          Sound table s kept dropped number place (take (if number =? 0 then kept else kept + 7) (if b then buffer else result ++ drop (length result) buffer))
-      go true f = apart cc
-      go false f =
-          let x = fine kept dropped number place f in
-          rw (take-at result (drop (length result) buffer) (if number =? 0 then kept else kept + 7) (x .1)) (x .0)
+      go : (b : Bool) → (length buffer <? length result) ≡ b → (if b then BufferTooShort else a) ≡ Salvaged kept dropped number place →
+          Sound table s kept dropped number place (take (resultSize kept number) (if b then buffer else result ++ drop (length result) buffer))
+          × Salvageable table s × (length result ≤ length buffer)
+      go true room f = apart cc
+      go false room f =
+          let same = sym (fine .is) ∙ f in
+          let e₁ : fine .kept ≡ kept = cc in
+          let e₂ : fine .dropped ≡ dropped = cc in
+          let e₃ : fine .number ≡ number = cc in
+          let e₄ : fine .place ≡ place = cc in
+          rw (← e₁, ← e₂, ← e₃, ← e₄, take-at result (drop (length result) buffer) (resultSize (fine .kept) (fine .number)) (fine .long))
+          (fine .sound, fine .can, ltb-false (length buffer) (length result) room)
+
+  -- Whatever stops the walk, bytes are made.
+  makes : Salvageable table s → (a : Answer) × (result : List ℕ) × (salvageOf table s ≡ made a result)
+  unfolding salvageUnder opened
+  makes can =
+      let t = tableIn table in
+      let is = opens-with s (can .input) (t .inputs) (can .known) (can .opens) in
+      let w = walked (lastOf t s (can .input)) (walk journal t (from t s (can .input)) (items t s (can .input))) in
+      (w .0, w .1, salvage-is table (can .passes) s ∙ rw (le-ltb longestJournal (length s) (can .short), is) (w .2))
+    where
+      walked : (cut : Cut) (w : Walk) → (a : Answer) × (result : List ℕ) × (madeBy s cut w ≡ made a result)
+      walked cut (ended taken last) = (_, _, refl)
+      walked cut (stopped x place) = (_, _, refl)
+
+  module _ (bytes : Bytes s) (can : Salvageable table s) where
+    made-is : (a : Answer) × (result : List ℕ) × (salvageOf table s ≡ made a result) × Reported a result
+    made-is = let m = makes can in (m .0, m .1, m .2, rw (m .2) at (always-fine bytes))
+
+    pub made-few : sizeMade (salvageOf table s) ≤ 65531
+    made-few = let m = made-is in rw (m .2) (m .3 .few)
+
+    pub succeeds : (buffer : List ℕ) → sizeMade (salvageOf table s) ≤ length buffer → Succeeds table s buffer
+    unfolding answerIn
+    succeeds buffer room =
+        let m = made-is in
+        let fine = m .3 in
+        let enough = rw (m .2) at room in
+        record {
+          kept = fine .kept;
+          dropped = fine .dropped;
+          number = fine .number;
+          place = fine .place;
+          answer = rw (m .2, le-ltb (length buffer) (length (m .1)) enough) (fine .is);
+          size = rw (m .2) (fine .long);
+        }
 
 pub salvages-soundly : SalvagesSoundly
 salvages-soundly table s buffer bytes kept dropped number place e =
-    succeeded table s buffer kept dropped number place (salvageOf table s) (always-fine table s bytes) e
+    succeeded table s buffer kept dropped number place (salvageOf table s) (always-fine table s bytes) e .0
+
+pub salvages-exactly : SalvagesExactly
+salvages-exactly table s buffer bytes = (
+  (λ x.
+      let p = succeeded table s buffer (x .kept) (x .dropped) (x .number) (x .place) (salvageOf table s) (always-fine table s bytes) (x .answer) in
+      (p .1, p .2)),
+  (λ p. succeeds table s bytes (p .0) buffer (p .1)),
+)

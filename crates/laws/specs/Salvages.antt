@@ -1,20 +1,21 @@
 -- What holds of salvage as a whole; proofs/Salvages proves each.
 use mathlib.Core.Path.{_≡_}
-use mathlib.Core.List.{List}
+use mathlib.Core.List.{List, [], _∷_}
 use mathlib.Core.Bool.{true}
-use mathlib.Core.Logic.{_⊎_}
-use Prim.Native.Nat.{ℕ, _+_, _≤_}
+use mathlib.Core.Logic.{_⊎_, _↔_}
+use Prim.Native.Nat.{ℕ, _+_, _<_, _≤_}
 use lib.ListN.{length, take, drop}
 use Rattle.wire.specs.Choice.{_=?_, if_then_else_}
 use Rattle.wire.specs.Encode.{Bytes, bytes32, field}
-use Rattle.wire.specs.Made.{answerIn, bufferIn}
+use Rattle.wire.specs.Made.{Made, refused, made, answerIn, bufferIn}
 use Rattle.table.specs.declared.Table.{Table}
-use Rattle.table.specs.Check.{tableIn}
+use Rattle.table.specs.declared.Answer.the-variants.{Passes}
+use Rattle.table.specs.Check.{tableAnswer, tableIn}
 use Rattle.records.specs.declared.Refusal.{Refusal}
 use Rattle.records.specs.declared.Opening.the-variants.{Input}
 use Rattle.records.specs.Record.{timeOf, isTick}
 use Rattle.records.specs.Refusal.{numberOf}
-use Rattle.records.specs.Form.{journal}
+use Rattle.records.specs.Form.{journal, longestJournal}
 use Rattle.records.specs.Reading.{openingOf, sizeOf, Items, item, done, broken, itemsOf}
 use Rattle.machine.specs.declared.Machine.{Machine}
 use Rattle.machine.specs.declared.Step.the-variants.{Next}
@@ -48,9 +49,13 @@ SoundTick t s time ends = (input : ℕ) × (openingOf journal (t .inputs) s ≡ 
 abbrev pub answerFor : (table s buffer : List ℕ) → Answer
 answerFor table s buffer = answerIn BufferTooShort (salvageOf table s) (length buffer)
 
--- What then stands at the start of the buffer: the bytes kept and, where something was refused, the seven of an end field.
+-- How many bytes are written: those kept and, where something was refused, the seven of an end field.
+abbrev pub resultSize : (kept number : ℕ) → ℕ
+resultSize kept number = if number =? 0 then kept else kept + 7
+
+-- What then stands at the start of the buffer.
 abbrev pub resultIn : (table s buffer : List ℕ) (kept number : ℕ) → List ℕ
-resultIn table s buffer kept number = take (if number =? 0 then kept else kept + 7) (bufferIn (salvageOf table s) buffer)
+resultIn table s buffer kept number = take (resultSize kept number) (bufferIn (salvageOf table s) buffer)
 
 -- An accepted journal comes back unchanged, and the report says its length, 0, 0 and 0.
 pub record Unchanged (table s : List ℕ) (kept dropped number place : ℕ) (result : List ℕ) : Type 0 where
@@ -91,3 +96,42 @@ pub record Sound (table s : List ℕ) (kept dropped number place : ℕ) (result 
 abbrev pub SalvagesSoundly : Type 0
 SalvagesSoundly = (table s buffer : List ℕ) → Bytes s → (kept dropped number place : ℕ) → answerFor table s buffer ≡ Salvaged kept dropped number place →
     Sound table s kept dropped number place (resultIn table s buffer kept number)
+
+-- ---- When it succeeds
+
+-- The table passes, the journal is not too long, and it begins with an opening field that names an input of the table.
+pub record Salvageable (table s : List ℕ) : Type 0 where
+  pub passes : tableAnswer table ≡ Passes
+  pub short : length s ≤ longestJournal
+  pub input : ℕ
+  pub known : input < tableIn table .inputs
+  pub opens : take 4 s ≡ field 0x10 (input ∷ [])
+
+-- The bytes that are made, if there are any.
+abbrev pub sizeMade : Made Answer → ℕ
+sizeMade (refused answer) = 0
+sizeMade (made answer bytes) = length bytes
+
+-- It succeeds with this buffer, and what was made has as many bytes as the report says.
+pub record Succeeds (table s buffer : List ℕ) : Type 0 where
+  pub kept : ℕ
+  pub dropped : ℕ
+  pub number : ℕ
+  pub place : ℕ
+  pub answer : answerFor table s buffer ≡ Salvaged kept dropped number place
+  pub size : sizeMade (salvageOf table s) ≡ resultSize kept number
+
+-- It succeeds exactly where the journal can be salvaged and the buffer has a byte for each that is made.
+abbrev pub SalvagesExactly : Type 0
+SalvagesExactly = (table s buffer : List ℕ) → Bytes s →
+    Succeeds table s buffer ↔ (Salvageable table s × (sizeMade (salvageOf table s) ≤ length buffer))
+
+-- So much room is enough for every journal that can be salvaged, and under every table that passes there is one for which less is not.
+pub record LeastRoom (room : ℕ) : Type 0 where
+  pub enough : (table s buffer : List ℕ) → Bytes s → Salvageable table s → room ≤ length buffer → Succeeds table s buffer
+  pub no-less : (table : List ℕ) → tableAnswer table ≡ Passes →
+      (s : List ℕ) × Bytes s × Salvageable table s × ((buffer : List ℕ) → length buffer < room → answerFor table s buffer ≡ BufferTooShort)
+
+-- It is the length of the longest journal that can be accepted: 4 + 8 × 8,190 + 7.
+abbrev pub SalvageRoom : Type 0
+SalvageRoom = LeastRoom 65531
