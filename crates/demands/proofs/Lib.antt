@@ -5,5 +5,6 @@ pub mod Tight
 pub mod Calculators
 pub mod Contracts
 pub mod Entries
+pub mod Codes
 pub mod Host
 pub mod Cases
