@@ -6,5 +6,6 @@ pub mod Calculators
 pub mod Contracts
 pub mod Entries
 pub mod Codes
+pub mod HostReports
 pub mod Host
 pub mod Cases

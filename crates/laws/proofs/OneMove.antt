@@ -11,7 +11,6 @@ use Rattle.wire.specs.Choice.{_<?_, _=?_, _or_, if_then_else_}
 use Rattle.wire.specs.Reply.{Reply, gives, refuses, numberIn}
 use Rattle.wire.proofs.Choice.{never}
 use Rattle.sets.specs.Sets.{largest}
-use Rattle.table.specs.declared.Answer.the-variants as table
 use Rattle.table.specs.declared.Table.{Table}
 use Rattle.table.specs.Table.{WellFormed}
 use Rattle.table.specs.Answer as table-answer

@@ -242,7 +242,7 @@ each-append : (P : Known → Type 0) (js ks : List Known) → Each P js → Each
 each-append P [] ks e f = f
 each-append P (j ∷ js) ks e f = (e .0, each-append P js ks (e .1) f)
 
-length-summed : (sums numbers : List ℕ) → length (summed sums numbers) ≡ length sums
+pub length-summed : (sums numbers : List ℕ) → length (summed sums numbers) ≡ length sums
 unfolding summed
 length-summed [] numbers = refl
 length-summed (n ∷ sums) [] = refl
@@ -363,11 +363,11 @@ module _ (t : Table) (well : WellFormed t) (table : List ℕ) (js : List Known) 
 
 -- ---- From the beginning
 
-begun-with : (table : List ℕ) → tableAnswer table ≡ Passes → beginOf table .report ≡ emptyWith table
+pub begun-with : (table : List ℕ) → tableAnswer table ≡ Passes → beginOf table .report ≡ emptyWith table
 unfolding beginOf
 begun-with table passes = rw passes refl
 
-kept-table : (table : List ℕ) → tableOf (emptyWith table) ≡ table
+pub kept-table : (table : List ℕ) → tableOf (emptyWith table) ≡ table
 kept-table table = take-append-seam table _
 
 few-all : (table : List ℕ) (js : List Known) → Few (emptyWith table) js → length js ≤ mostJournals

@@ -8,7 +8,7 @@ use native.Mathlib.Omega.{arith}
 use borrow.Author.Tests.{le-ltb, ltb-false, leb-true}
 use lib.ListN.{length, take, drop, take-append-drop}
 use lib.Seq.{length-take-le, take-at, drop-at}
-use Rattle.wire.specs.Choice.{_<?_, _≤?_, _=?_, if_then_else_}
+use Rattle.wire.specs.Choice.{_<?_, _≤?_, if_then_else_}
 use Rattle.wire.specs.Field.{byteAt}
 use Rattle.wire.specs.Encode.{Bytes, bytes32, field}
 use Rattle.wire.specs.Made.{Made, refused, made, answerIn, bufferIn}
