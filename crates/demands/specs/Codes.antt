@@ -22,9 +22,10 @@ pub record ReadsBack (code : ℕ) (reply : Reply) : Type 0 where
 
 -- Whatever the arguments, the result that the contract allows reads back as what the host is told of them.
 abbrev pub CodeReadsBack : (C : Contract) → ((κs : Lfts (C .lifetimes)) → C .Result κs → ℕ) → ((κs : Lfts (C .lifetimes)) → C .Args κs → Reply) → Type 0
-CodeReadsBack C code told = (κs : Lfts (C .lifetimes)) (a : C .Args κs) (r : C .Result κs) (s : C .Exit κs) → C .Post κs a r s →
-    ReadsBack (code κs r) (told κs a)
+CodeReadsBack C code reply = (κs : Lfts (C .lifetimes)) (a : C .Args κs) (r : C .Result κs) (s : C .Exit κs) → C .Post κs a r s →
+    ReadsBack (code κs r) (reply κs a)
 
+-- So it is with each of the thirteen functions for C.
 abbrev pub EveryCodeReadsBack : Type 0
 EveryCodeReadsBack =
     CodeReadsBack tableInC (λ κs r. r) (λ κs a. table.replyOf (tableAnswer (now (a .0))))

@@ -23,7 +23,7 @@ use Rattle.salvage.specs.declared.Answer.the-variants.{BufferTooShort}
 use Rattle.laws.specs.Salvages.{answerFor, Salvageable, SalvageRoom}
 use Rattle.laws.proofs.Runtimes.{accepted-for}
 use Rattle.laws.proofs.Longest.{journal-bytes, longest-is-made}
-use Rattle.laws.proofs.Salvages.{unchanged-as, made-few, succeeds}
+use Rattle.laws.proofs.Salvages.{unchanged-as, by-room}
 
 longest-needs : (table : List ℕ) → tableAnswer table ≡ Passes →
     (s : List ℕ) × Bytes s × Salvageable table s × ((buffer : List ℕ) → length buffer < 65531 → answerFor table s buffer ≡ BufferTooShort)
@@ -48,6 +48,9 @@ longest-needs table passes =
 
 pub salvage-room : SalvageRoom
 salvage-room = record {
-  enough = λ table s buffer bytes can room. succeeds table s bytes can buffer (omega (arith, made-few table s bytes can));
+  enough = λ table s buffer bytes can room.
+      let p = by-room table s bytes can in
+      let r = p .0 in
+      (r .kept, r .dropped, r .number, r .place, r .with-room buffer (omega arith));
   no-less = longest-needs;
 }

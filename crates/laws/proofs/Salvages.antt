@@ -5,15 +5,13 @@ use mathlib.Core.Bool.{Bool, true, false}
 use mathlib.Core.Logic.{_⊎_, inl, inr}
 use Prim.Native.Nat.{ℕ, suc, _+_, _-_, _<_, _≤_}
 use native.Mathlib.Omega.{arith}
-use borrow.Author.Tests.{le-ltb, ltb-false, leb-true}
+use borrow.Author.Tests.{lt-ltb, le-ltb, ltb-false, leb-true}
 use lib.ListN.{length, take, drop, take-append-drop}
 use lib.Seq.{length-take-le, take-at, drop-at}
 use Rattle.wire.specs.Choice.{_<?_, _≤?_, if_then_else_}
-use Rattle.wire.specs.Field.{byteAt}
 use Rattle.wire.specs.Encode.{Bytes, bytes32, field}
 use Rattle.wire.specs.Made.{Made, refused, made, answerIn, bufferIn}
 use Rattle.wire.proofs.Apart.{apart}
-use Rattle.wire.proofs.Bytes.{byte-written, field-written}
 use Rattle.wire.proofs.Choice.{both}
 use Rattle.table.specs.declared.Table.{Table}
 use Rattle.table.specs.declared.Answer.the-variants.{Passes}
@@ -27,13 +25,11 @@ use Rattle.records.specs.declared.Opening.the-variants as opening
 use Rattle.records.specs.Record.{latest}
 use Rattle.records.specs.Refusal.{numberOf}
 use Rattle.records.specs.Form.{journal, longestJournal}
-use Rattle.records.specs.declared.Known.the-variants as known
-use Rattle.records.specs.Reading.{lengthFits, openingOf, Items, itemsOf}
-use Rattle.records.proofs.Fields.{known-is}
+use Rattle.records.specs.Reading.{openingOf, Items, itemsOf}
 use Rattle.records.proofs.Places.{refusal-numbered}
 use Rattle.records.proofs.Lengths.{inner-no-end, encode-length}
-use Rattle.records.proofs.Reading.{opening-input, OpeningAt, opening-at, found-room}
-use Rattle.records.proofs.Written.{journal-recovers, opening-read}
+use Rattle.records.proofs.Reading.{OpeningAt, opening-at, found-room}
+use Rattle.records.proofs.Written.{journal-recovers, opening-written, opening-read}
 use Rattle.machine.specs.declared.Machine.{Machine}
 use Rattle.machine.specs.Machine.{start, after}
 use Rattle.machine.specs.Walk.{inTable, Walk, ended, stopped, walk, ran, ranFrom, recordsRun, runOver}
@@ -48,7 +44,7 @@ use Rattle.salvage.specs.Salvage.{Cut, cutAt, firstCut, lastCut, cutAfter, cutO
 use Rattle.salvage.proofs.Reaching.{OneTaken, reaches}
 use Rattle.machine.specs.RunsOver.{RunsOver}
 use Rattle.machine.proofs.RunsOver.{over-runs, runs-over}
-use Rattle.laws.specs.Salvages.{resultSize, SoundTick, ComesBack, Sound, SalvagesSoundly, Salvageable, sizeMade, Succeeds, SalvagesExactly}
+use Rattle.laws.specs.Salvages.{resultSize, SoundTick, ComesBack, Sound, SalvagesSoundly, Salvageable, GoesByRoom, SalvagesExactly}
 use Rattle.laws.proofs.Fronts.{Front, front-begins, front-more, closed-length, front-closed}
 use Rattle.laws.proofs.Cuts.{items-follow, none-lost, Last, last-tick}
 
@@ -243,13 +239,8 @@ module _ (table : List ℕ) (passes : tableAnswer table ≡ Passes) where
 -- ---- The opening field
 
 opens-with : (s : List ℕ) (input inputs : ℕ) → input < inputs → take 4 s ≡ field 0x10 (input ∷ []) → openingOf journal inputs s ≡ opening.Input input
-unfolding lengthFits
 opens-with s input inputs h e =
-    let there : s ≡ field 0x10 (input ∷ []) ++ drop 4 s = sym (take-append-drop 4 s) ∙ ap (λ l. l ++ drop 4 s) e in
-    let f = field-written s (drop 4 s) (input ∷ []) 0 0x10 1 refl (omega arith) there in
-    let input-is : byteAt s 3 ≡ input = byte-written s _ 3 (f .holds) 3 0 refl in
-    let stands = known-is 0x10 4 5 s 0 0x10 1 (record { whole = f .whole; fits = refl }) in
-    sym (opening-input 0x10 4 5 inputs s (known.Field 0x10 1) stands 0x10 1 refl refl input (sym input-is) h)
+    opening-written 0x10 4 5 inputs s (drop 4 s) input h (sym (take-append-drop 4 s) ∙ ap (λ l. l ++ drop 4 s) e) .0
 
 -- ---- The entry
 
@@ -336,23 +327,23 @@ module _ (table s : List ℕ) where
 
   succeeded : (buffer : List ℕ) (kept dropped number place : ℕ) (m : Made Answer) → Fine m →
       answerIn BufferTooShort m (length buffer) ≡ Salvaged kept dropped number place →
-      Sound table s kept dropped number place (take (resultSize kept number) (bufferIn m buffer)) × Salvageable table s × (sizeMade m ≤ length buffer)
+      Sound table s kept dropped number place (take (resultSize kept number) (bufferIn m buffer)) × Salvageable table s
   unfolding answerIn bufferIn
   succeeded buffer kept dropped number place (refused a) fine e = absurd (fine kept dropped number place e)
-  succeeded buffer kept dropped number place (made a result) fine e = go (length buffer <? length result) refl e
+  succeeded buffer kept dropped number place (made a result) fine e = go (length buffer <? length result) e
     where
-      go : (b : Bool) → (length buffer <? length result) ≡ b → (if b then BufferTooShort else a) ≡ Salvaged kept dropped number place →
+      go : (b : Bool) → (if b then BufferTooShort else a) ≡ Salvaged kept dropped number place →
           Sound table s kept dropped number place (take (resultSize kept number) (if b then buffer else result ++ drop (length result) buffer))
-          × Salvageable table s × (length result ≤ length buffer)
-      go true room f = apart cc
-      go false room f =
+          × Salvageable table s
+      go true f = apart cc
+      go false f =
           let same = sym (fine .is) ∙ f in
           let e₁ : fine .kept ≡ kept = cc in
           let e₂ : fine .dropped ≡ dropped = cc in
           let e₃ : fine .number ≡ number = cc in
           let e₄ : fine .place ≡ place = cc in
           rw (← e₁, ← e₂, ← e₃, ← e₄, take-at result (drop (length result) buffer) (resultSize (fine .kept) (fine .number)) (fine .long))
-          (fine .sound, fine .can, ltb-false (length buffer) (length result) room)
+          (fine .sound, fine .can)
 
   -- Whatever stops the walk, bytes are made.
   makes : Salvageable table s → (a : Answer) × (result : List ℕ) × (salvageOf table s ≡ made a result)
@@ -367,36 +358,27 @@ module _ (table s : List ℕ) where
       walked cut (ended taken last) = (_, _, refl)
       walked cut (stopped x place) = (_, _, refl)
 
-  module _ (bytes : Bytes s) (can : Salvageable table s) where
-    made-is : (a : Answer) × (result : List ℕ) × (salvageOf table s ≡ made a result) × Reported a result
-    made-is = let m = makes can in (m .0, m .1, m .2, rw (m .2) at (always-fine bytes))
-
-    pub made-few : sizeMade (salvageOf table s) ≤ 65531
-    made-few = let m = made-is in rw (m .2) (m .3 .few)
-
-    pub succeeds : (buffer : List ℕ) → sizeMade (salvageOf table s) ≤ length buffer → Succeeds table s buffer
-    unfolding answerIn
-    succeeds buffer room =
-        let m = made-is in
-        let fine = m .3 in
-        let enough = rw (m .2) at room in
-        record {
-          kept = fine .kept;
-          dropped = fine .dropped;
-          number = fine .number;
-          place = fine .place;
-          answer = rw (m .2, le-ltb (length buffer) (length (m .1)) enough) (fine .is);
-          size = rw (m .2) (fine .long);
-        }
+  pub by-room : Bytes s → Salvageable table s → (r : GoesByRoom table s) × (resultSize (r .kept) (r .number) ≤ 65531)
+  unfolding answerIn
+  by-room bytes can =
+      let m = makes can in
+      let fine : Reported (m .0) (m .1) = rw (m .2) at (always-fine bytes) in
+      let goes : GoesByRoom table s = record {
+        kept = fine .kept;
+        dropped = fine .dropped;
+        number = fine .number;
+        place = fine .place;
+        with-room = λ buffer room. rw (m .2, le-ltb (length buffer) (length (m .1)) (rw (fine .long) room)) (fine .is);
+        without = λ buffer less. rw (m .2, lt-ltb (length buffer) (length (m .1)) (rw (fine .long) less)) refl;
+      } in
+      (goes, rw (← fine .long) (fine .few))
 
 pub salvages-soundly : SalvagesSoundly
 salvages-soundly table s buffer bytes kept dropped number place e =
     succeeded table s buffer kept dropped number place (salvageOf table s) (always-fine table s bytes) e .0
 
 pub salvages-exactly : SalvagesExactly
-salvages-exactly table s buffer bytes = (
-  (λ x.
-      let p = succeeded table s buffer (x .kept) (x .dropped) (x .number) (x .place) (salvageOf table s) (always-fine table s bytes) (x .answer) in
-      (p .1, p .2)),
-  (λ p. succeeds table s bytes (p .0) buffer (p .1)),
+salvages-exactly table s bytes = (
+  λ can. by-room table s bytes can .0,
+  λ buffer x. succeeded table s buffer (x .0) (x .1) (x .2) (x .3) (salvageOf table s) (always-fine table s bytes) (x .4) .1,
 )

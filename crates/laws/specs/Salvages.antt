@@ -2,12 +2,12 @@
 use mathlib.Core.Path.{_≡_}
 use mathlib.Core.List.{List, [], _∷_}
 use mathlib.Core.Bool.{true}
-use mathlib.Core.Logic.{_⊎_, _↔_}
+use mathlib.Core.Logic.{_⊎_}
 use Prim.Native.Nat.{ℕ, _+_, _<_, _≤_}
 use lib.ListN.{length, take, drop}
 use Rattle.wire.specs.Choice.{_=?_, if_then_else_}
 use Rattle.wire.specs.Encode.{Bytes, bytes32, field}
-use Rattle.wire.specs.Made.{Made, refused, made, answerIn, bufferIn}
+use Rattle.wire.specs.Made.{answerIn, bufferIn}
 use Rattle.table.specs.declared.Table.{Table}
 use Rattle.table.specs.declared.Answer.the-variants.{Passes}
 use Rattle.table.specs.Check.{tableAnswer, tableIn}
@@ -107,24 +107,23 @@ pub record Salvageable (table s : List ℕ) : Type 0 where
   pub known : input < tableIn table .inputs
   pub opens : take 4 s ≡ field 0x10 (input ∷ [])
 
--- The bytes that are made, if there are any.
-abbrev pub sizeMade : Made Answer → ℕ
-sizeMade (refused answer) = 0
-sizeMade (made answer bytes) = length bytes
+-- It succeeds with this buffer.
+abbrev pub Succeeds : (table s buffer : List ℕ) → Type 0
+Succeeds table s buffer = (kept : ℕ) × (dropped : ℕ) × (number : ℕ) × (place : ℕ) × (answerFor table s buffer ≡ Salvaged kept dropped number place)
 
--- It succeeds with this buffer, and what was made has as many bytes as the report says.
-pub record Succeeds (table s buffer : List ℕ) : Type 0 where
+-- There is one report: it comes with every buffer that has a byte for each that it says is written, and with any other comes 30.
+pub record GoesByRoom (table s : List ℕ) : Type 0 where
   pub kept : ℕ
   pub dropped : ℕ
   pub number : ℕ
   pub place : ℕ
-  pub answer : answerFor table s buffer ≡ Salvaged kept dropped number place
-  pub size : sizeMade (salvageOf table s) ≡ resultSize kept number
+  pub with-room : (buffer : List ℕ) → resultSize kept number ≤ length buffer → answerFor table s buffer ≡ Salvaged kept dropped number place
+  pub without : (buffer : List ℕ) → length buffer < resultSize kept number → answerFor table s buffer ≡ BufferTooShort
 
--- It succeeds exactly where the journal can be salvaged and the buffer has a byte for each that is made.
+-- What can be salvaged succeeds by the room alone, and nothing else does.
 abbrev pub SalvagesExactly : Type 0
-SalvagesExactly = (table s buffer : List ℕ) → Bytes s →
-    Succeeds table s buffer ↔ (Salvageable table s × (sizeMade (salvageOf table s) ≤ length buffer))
+SalvagesExactly = (table s : List ℕ) → Bytes s →
+    (Salvageable table s → GoesByRoom table s) × ((buffer : List ℕ) → Succeeds table s buffer → Salvageable table s)
 
 -- So much room is enough for every journal that can be salvaged, and under every table that passes there is one for which less is not.
 pub record LeastRoom (room : ℕ) : Type 0 where
