@@ -50,6 +50,7 @@ SameReport = (table : List ℕ) → tableAnswer table ≡ Passes → (ss : List 
 
 -- ---- So it is with them as with the report's, while no 35 comes
 
+-- 35 is told of none.
 abbrev pub NeverFull : List Reply → Type 0
 NeverFull [] = Unit
 NeverFull (reply ∷ replies) = (reply ≡ refuses 35 0 → ⊥) × NeverFull replies
