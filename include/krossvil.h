@@ -254,7 +254,7 @@ uint64_t krossvil_lengthen(const uint8_t *table, size_t table_len, const uint8_t
  * end field. Of the records before that place, those up to the last tick that ends at or before byte 65,529 are kept, or the opening
  * field alone if there is no such tick; then comes an end field of 7 bytes with the time of that tick, or 0. Answer, 16 bytes: the
  * number of bytes kept, without the end field that is added; the number of bytes dropped; the refusal number and the place that
- * stopped it. What is written is accepted, and comes back unchanged when it is salvaged; it has at most 65,536 bytes, and up to 7 more
+ * stopped it. What is written is accepted, and comes back unchanged when it is salvaged; it has at most 65,531 bytes, and up to 7 more
  * than the journal. A journal that is too long, or whose opening field is refused, is refused in the same way. */
 uint64_t krossvil_salvage(const uint8_t *table, size_t table_len, const uint8_t *journal, size_t journal_len,
                           uint8_t *salvaged, size_t salvaged_len, uint8_t *answer, size_t answer_len);
