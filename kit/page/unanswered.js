@@ -3,7 +3,7 @@
 import { byId, closeMenu, fill, make } from './dom.js';
 
 const SHOWS_ANSWERS = ['diagram', 'machine', 'automaton', 'where', 'step-short', 'spoken', 'tools', 'tool-answer', 'reaction-answer',
-  'reaction-picture', 'pane-says', 'save-list', 'together-list'];
+  'reaction-picture', 'pane-says', 'save-list', 'together-list', 'paper'];
 const PICTURES = '#pictures, #automaton-beside, #automaton-below, #reaction-panel, .stepping';
 const OTHERS = '#tools-panel, #together, #run';
 
@@ -15,6 +15,7 @@ function hide(rooms) {
 /** What was made of texts that are no longer there. */
 export function closeOld() {
   fill(byId('tool-answer'));
+  fill(byId('paper'));
   closeMenu(byId('save'));
   byId('link-box').close();
 }

@@ -24,7 +24,7 @@ function processorTime(program, args) {
 /** The least times of some rounds, in turn, so that what runs beside them slows all of them alike; no more rounds than are needed. */
 function leastTimes(acts, enough) {
   let least = acts.map(() => Infinity);
-  for (let round = 0; round < 20 && (round < 5 || !enough(least)); round++) least = acts.map((act, k) => Math.min(least[k], act()));
+  for (let round = 0; round < 60 && (round < 5 || !enough(least)); round++) least = acts.map((act, k) => Math.min(least[k], act()));
   return least;
 }
 

@@ -63,19 +63,23 @@ function drive() {
     save: async () => { id('save').open = true; await pressSoon('#save-list button'); for (const each of all('#save-list button')) each.click(); },
     link: () => id('link').click(),
     dark: () => id('dark').click(),
+    print: () => window.dispatchEvent(new Event('beforeprint')),
     react: () => { const box = document.querySelector('#reaction-states input'); if (!box.checked) box.click(); box.click(); },
     example: () => example('gas-burner'),
     address: () => { location.hash = '#text=a3Jvc3N2aWwgdGFibGUK'; },
   };
 
-  /** An answer with everything that belongs to it. */
+  /** An answer with everything that belongs to it. What was done before may still come to its end, as files that are read: then once more. */
   const begin = async () => {
     window.fault = '';
-    id('link-box').close();
-    example('changed-verdict');
-    await settle();
-    window.hits = 0;
-    return id('verdict').textContent === 'refused 28 at 76' && document.querySelector('#diagram svg') !== null;
+    for (let k = 0; k < 20; k++) {
+      id('link-box').close();
+      example('changed-verdict');
+      await settle();
+      window.hits = 0;
+      if (await until(() => id('verdict')?.textContent === 'refused 28 at 76' && document.querySelector('#diagram svg'))) return true;
+    }
+    return false;
   };
 
   /** What the page still shows of an answer. */
@@ -83,6 +87,7 @@ function drive() {
     ['verdict', (id('verdict') ?? id('answer')).textContent.replace('Nothing is answered', '')],
     ['badges', all('.badge').map((each) => each.textContent).join('')],
     ['words', all(ANSWERS).map((each) => each.textContent).join('')],
+    ['paper', id('paper').textContent.replace('Nothing is answered.', '')],
     ['spoken', id('spoken').textContent.replace(/^Nothing is answered.*/, '')],
     ['pictures', all('main svg, .band').map((each) => each.outerHTML.slice(0, 40)).join()],
     ['rooms', all(ROOMS).filter((each) => each.checkVisibility()).map((each) => each.id || each.className).join()],
