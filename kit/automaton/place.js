@@ -32,7 +32,7 @@ const BEFORE_START = 1.5;
  * A source of numbers from 0 to 1, always the same.
  * @param {number} seed
  */
-function dice(seed) {
+export function dice(seed) {
   let state = seed;
   return () => {
     state = (Math.imul(state, 1664525) + 1013904223) >>> 0;
