@@ -1,8 +1,5 @@
-/* Times the library and plain C (host/plain.c) on the same bytes, in one process and in turns, and prints for each job the
- * median time of a call, how far the middle half of the rounds spreads, and the ratio of the library to plain C. Each job
- * has several inputs in rotation, so that no branch is learnt by heart. Times are comparable only within one run.
- * With the argument `count` it calls each once, between marks, and prints each job's name and bytes: for an emulator that
- * logs every instruction, where times say nothing. */
+/* Times the library and plain C (host/plain.c) on the same bytes, as docs/SPEED.md says. With the argument `count` it calls each
+ * once, between marks, and prints each job's name and bytes: for an emulator that logs every instruction. */
 #include "krossvil.h"
 #include "plain.h"
 

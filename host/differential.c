@@ -4,9 +4,7 @@
  *
  *     differential [CASES [SEED]]
  *
- * Prints the first mismatch in full, then how often each entry gave each number; a number that an entry can give
- * and that stayed away counts as a failure. The last line is `N passed, M failed`; the exit status is 0 if M is 0.
- *
+ * A number that an entry can give and that stayed away counts as a failure. The last line is `N passed, M failed`.
  * With SELF defined a second build of the reference (see SECOND in reference.h) stands in for the library. */
 #include "reference.h"
 

@@ -1,21 +1,5 @@
-/* A second implementation of the thirteen entries in plain C, written from the rules alone. The library is
- * held against it. Each entry returns 0, or refusal number * 2^32 + place; on success the answer's numbers stand at
- * the start of `answer`, four bytes each, most significant byte first.
- *
- *   check_table    no numbers
- *   check_journal  T, ticks, moves, last state, its output, the most ticks left at a test, the longest cycle
- *   run            the journal's length
- *   reaction       reaction time, target
- *   reaction_moves the same of several moves, and the length of the path in bytes; the sums and the path are written beside it
- *   reaction_tight reaction time, target, tight time
- *   convert_table  how many states have changed
- *   read_stamped   the journal's length
- *   check_short    as check_journal
- *   shorten        the short journal's length
- *   lengthen       the journal's length
- *   salvage        bytes kept, bytes dropped, number and place of the refusal that stopped it
- *   report_add     no answer: the numbers of a report are added to
- *
+/* A second implementation of the thirteen entries in plain C, written from the rules alone; docs/RULES.md, "In C", says what each
+ * takes and gives. The library is held against it.
  * With SECOND defined the same entries get the prefix second_, so that two builds can be linked into one program. */
 #ifndef REFERENCE_H
 #define REFERENCE_H

@@ -1,6 +1,6 @@
 #!/usr/bin/env bash
 # Holds the library against the reference in C (host/differential.c), then shows that the same test catches each of the
-# reference's faults. Runs the example hosts, and measures how much stack the functions need. Builds only under target/.
+# reference's faults. Runs the example hosts, and measures how much stack the functions need.
 # The last line is `N passed, M failed`.
 #
 #   host/test-differential.sh [--self] [CASES [SEED]]

@@ -1,9 +1,6 @@
 /**
- * The timing diagram of a journal, as SVG.
- *
- * Input, polls, tests, ticks, cycles, state, output, and holds or timers in lanes over one axis. Where the journal was refused one element
- * of class `refused-record` rings the record; each hold's end has the class `hold-end` and its time in `data-time`. A record's mark stands
- * in a group of class `record` with its number in `data-record`.
+ * The timing diagram of a journal, as SVG: lanes over one axis. An element of class `refused-record` rings the refused record; each hold's
+ * end has the class `hold-end` and its time in `data-time`; a record's mark stands in a group of class `record`, its number in `data-record`.
  */
 import { circle, group, line, picture, rect } from './svg.js';
 import { axis, hatchPattern, inputLane, names, phaseBand, stateLanes, unread } from './diagram/backdrop.js';

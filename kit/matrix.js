@@ -1,11 +1,7 @@
 /**
- * The matrix of a table's next states, as SVG: a row for each state, a column for each input. It is read where the automaton's picture would be
- * a tangle.
- *
- * Inputs that are alike in every state share a column. A cell has the next state: its name, or its number where names have no room; a dot where
- * the state stays. What a hold or a timer delays has a mark in a corner: each timer in a corner of its own. A row's head has the class
- * `state` and its number in `data-state`, a cell the class `edge`, its ends in `data-from` and `data-to` and its inputs in `data-inputs`. What is
- * lit has the class `lit` too.
+ * The matrix of a table's next states, as SVG, for tables whose automaton would be a tangle. Inputs that are alike in every state share a
+ * column. A row's head has the class `state` and its number in `data-state`, a cell the class `edge`, its ends in `data-from` and `data-to`
+ * and its inputs in `data-inputs`; what is lit has the class `lit` too.
  */
 
 import { summary } from './automaton/summary.js';

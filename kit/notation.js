@@ -1,9 +1,6 @@
 /**
  * Texts of tables, stimuli and journals, both ways. A text says what the bytes are and does not judge them: the library does. Every
- * byte string has a text that gives it back. Names stand in the table's text alone.
- *
- * A text begins with the word `krossvil` and what follows: table, stimulus, journal, stamped journal or short journal. One text may have
- * several such parts.
+ * byte string has a text that gives it back. kit/NOTATION.md has the notation.
  */
 
 import { nameFault, readLine } from './notation/lexer.js';

@@ -1,10 +1,7 @@
 /**
- * A journal as a value change dump, which GTKWave opens.
- *
- * Input, polled input, verdict, state, output and phase stand there by their names, as GTKWave's strings; for other viewers also by their
- * numbers. `cycle` counts the cycles from 0, `left` is how many ticks are left at a held test. Polled input, verdict and `left` stay until the
- * next poll, since poll, test and tick may share an instant. Where the journal was refused, `refused` becomes 1 at the record. The dump ends one
- * unit later than the journal, so that what happens last can be seen.
+ * A journal as a value change dump, which GTKWave opens: values by their names and, for other viewers, by their numbers. Polled input, verdict
+ * and `left` stay until the next poll, since poll, test and tick may share an instant. The dump ends one unit later than the journal, so that
+ * what happens last can be seen.
  */
 import { vcdWord, visible } from './escape.js';
 import { nameOf } from './name-of.js';

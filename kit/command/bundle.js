@@ -1,9 +1,7 @@
 /**
- * Modules in one script: a function for each, which runs once, when it is first needed.
- *
- * Import and export lines as the kit writes them are the only ones that are understood; whatever else begins with these words stops
- * the build. A module of Node's is required, and a module that is loaded later, as `() => import('./it.js')`, is there already. Remarks
- * on lines of their own are left out, since what starts must first be read.
+ * Modules in one script: a function for each, which runs once, when it is first needed. Import and export lines as the kit writes them
+ * are understood; any other stops the build. A module that is loaded later, as `() => import('./it.js')`, is there already. Remarks on
+ * lines of their own are left out, since what starts must first be read.
  */
 import { readFileSync } from 'node:fs';
 import { dirname, relative, resolve } from 'node:path';
