@@ -10,9 +10,8 @@
 #include "krossvil.h"
 #include "numbers.h"
 
-/* A table has at most 1,626 bytes; one byte more than the longest journal of either form lets a file that is too long be turned
- * down as such. */
-static uint8_t table[2048], journal[KROSSVIL_SHORT_MAX + 1];
+/* One byte more than the longest lets a file that is too long be turned down. */
+static uint8_t table[KROSSVIL_TABLE_MAX + 1], journal[KROSSVIL_SHORT_MAX + 1];
 
 int main(int count, char **words)
 {
@@ -26,8 +25,8 @@ int main(int count, char **words)
     if (!load(words[1], table, sizeof table, &table_size) || !load(words[2], journal, sizeof journal, &size))
         return 2;
 
-    /* A short journal begins with the tag 30. What begins with anything else is a journal or is refused as one. */
-    uint64_t code = (size > 0 && journal[0] == 0x30 ? krossvil_check_short : krossvil_check_journal)(
+    /* What does not begin as a short journal does is a journal or is refused as one. */
+    uint64_t code = (size > 0 && journal[0] == KROSSVIL_SHORT_OPENING ? krossvil_check_short : krossvil_check_journal)(
         table, table_size, journal, size, answer, sizeof answer);
     if (code != 0) {
         printf("refused %u at %u\n", krossvil_number(code), krossvil_place(code));

@@ -1,4 +1,4 @@
-/* An example host: converts a table that was made before there was refusal 11. It prints how many states have changed, or the
+/* An example host: converts a table that was made before there was KROSSVIL_IDLE_SET. It prints how many states have changed, or the
  * refusal, and then writes nothing.
  *
  *   rt staticlib krossvil
@@ -9,8 +9,8 @@
 #include "files.h"
 #include "krossvil.h"
 
-/* An old table has at most 1,338 bytes. */
-static uint8_t old_table[2048], new_table[2048];
+/* One byte more than the longest lets a file that is too long be turned down. */
+static uint8_t old_table[KROSSVIL_TABLE_MAX + 1], new_table[KROSSVIL_TABLE_MAX];
 
 int main(int count, char **words)
 {
@@ -31,6 +31,6 @@ int main(int count, char **words)
     }
     if (!store(words[2], new_table, size)) /* as many bytes as the old one */
         return 2;
-    printf("changed=%u\n", krossvil_read(answer, 0));
+    printf("changed=%u\n", krossvil_answer(answer, KROSSVIL_CONVERT_CHANGED));
     return 0;
 }

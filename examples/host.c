@@ -9,8 +9,13 @@
 #include "krossvil.h"
 #include "numbers.h"
 
-/* A table has at most 1,626 bytes; one byte more than the longest stimulus lets a file that is too long be turned down as such. */
-static uint8_t table[2048], stimulus[KROSSVIL_STIMULUS_MAX + 1], journal[KROSSVIL_JOURNAL_MAX];
+/* One byte more than the longest lets a file that is too long be turned down. */
+static uint8_t table[KROSSVIL_TABLE_MAX + 1], stimulus[KROSSVIL_STIMULUS_MAX + 1], journal[KROSSVIL_JOURNAL_MAX];
+
+/* Sets are numbers, in which 2^i stands for member i. */
+static uint32_t only(uint32_t member) { return UINT32_C(1) << member; }
+
+static uint32_t all_of(uint32_t count) { return (uint32_t)((UINT64_C(1) << count) - 1); }
 
 /* Prints a refusal; 1 if there was none. */
 static int passed(const char *what, uint64_t code)
@@ -39,7 +44,7 @@ int main(int count, char **words)
 
     if (!passed("run", krossvil_run(table, table_size, stimulus, stimulus_size, journal, sizeof journal, answer, sizeof answer)))
         return 1;
-    size_t journal_size = krossvil_read(answer, 0);
+    size_t journal_size = krossvil_answer(answer, KROSSVIL_WRITTEN);
     printf("run: a journal of %zu bytes\n", journal_size);
 
     if (!passed("journal", krossvil_check_journal(table, table_size, journal, journal_size, answer, sizeof answer)))
@@ -47,11 +52,10 @@ int main(int count, char **words)
     printf("journal: ");
     print_accepted(answer);
 
-    /* Every state, and input 0 alone. The table passed, so its fourth byte is the number of states. */
-    uint32_t states = (uint32_t)(((uint64_t)1 << table[3]) - 1);
-    if (!passed("reaction", krossvil_reaction(table, table_size, states, 1, answer, sizeof answer)))
+    uint32_t states = all_of(krossvil_table_states(table));
+    if (!passed("reaction", krossvil_reaction(table, table_size, states, only(0), answer, sizeof answer)))
         return 1;
-    printf("reaction: from any state, while the input is 0, within %u to the states of the set %u\n", krossvil_read(answer, 0),
-           krossvil_read(answer, 1));
+    printf("reaction: from any state, while the input is 0, within %u to the states of the set %u\n",
+           krossvil_answer(answer, KROSSVIL_REACTION_TIME), krossvil_answer(answer, KROSSVIL_REACTION_TARGET));
     return 0;
 }

@@ -10,15 +10,16 @@
 #include "krossvil.h"
 #include "numbers.h"
 
-static uint8_t table[2048], path[KROSSVIL_PATH_MAX]; /* a table has at most 1,626 bytes */
+/* One byte more than the longest lets a file that is too long be turned down. */
+static uint8_t table[KROSSVIL_TABLE_MAX + 1], path[KROSSVIL_PATH_MAX];
 static uint32_t sums[KROSSVIL_SUMS_MAX];
 
-static void print_sums(uint32_t states, uint32_t moves)
+static void print_sums(uint32_t state_count, uint32_t moves)
 {
     for (uint32_t row = 0; row < moves; row++) {
         printf("row %u:", row);
-        for (uint32_t q = 0; q < states; q++)
-            printf(" %u", sums[row * states + q]);
+        for (uint32_t q = 0; q < state_count; q++)
+            printf(" %u", sums[row * state_count + q]);
         printf("\n");
     }
 }
@@ -51,8 +52,9 @@ int main(int count, char **words)
         printf("refused %u at %u\n", krossvil_number(code), krossvil_place(code));
         return 1;
     }
-    printf("within %u to the states of the set %u\n", krossvil_read(answer, 0), krossvil_read(answer, 1));
-    print_sums(table[3], moves); /* the table passed, so its fourth byte is the number of states */
-    print_path(krossvil_read(answer, 2));
+    printf("within %u to the states of the set %u\n", krossvil_answer(answer, KROSSVIL_REACTION_TIME),
+           krossvil_answer(answer, KROSSVIL_REACTION_TARGET));
+    print_sums(krossvil_table_states(table), moves);
+    print_path(krossvil_answer(answer, KROSSVIL_MOVES_PATH));
     return 0;
 }

@@ -22,9 +22,11 @@ static inline int read_number(const char *word, uint32_t *number)
 /* What the check of a journal, or of a short journal, answers where it accepts. */
 static inline void print_accepted(const uint8_t *answer)
 {
-    printf("accepted end=%u cycles=%u moves=%u state=%u output=%u left=%u longest=%u\n", krossvil_read(answer, 0), krossvil_read(answer, 1),
-           krossvil_read(answer, 2), krossvil_read(answer, 3), krossvil_read(answer, 4), krossvil_read(answer, 5),
-           krossvil_read(answer, 6));
+    printf("accepted end=%u cycles=%u moves=%u state=%u output=%u left=%u longest=%u\n",
+           krossvil_answer(answer, KROSSVIL_JOURNAL_END), krossvil_answer(answer, KROSSVIL_JOURNAL_TICKS),
+           krossvil_answer(answer, KROSSVIL_JOURNAL_MOVES), krossvil_answer(answer, KROSSVIL_JOURNAL_STATE),
+           krossvil_answer(answer, KROSSVIL_JOURNAL_OUTPUT), krossvil_answer(answer, KROSSVIL_JOURNAL_LEFT),
+           krossvil_answer(answer, KROSSVIL_JOURNAL_LONGEST));
 }
 
 #endif

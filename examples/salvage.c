@@ -9,8 +9,8 @@
 #include "files.h"
 #include "krossvil.h"
 
-/* A table has at most 1,626 bytes; one byte more than the longest journal lets a file that is too long be turned down as such. */
-static uint8_t table[2048], journal[KROSSVIL_JOURNAL_MAX + 1], salvaged[KROSSVIL_JOURNAL_MAX];
+/* One byte more than the longest lets a file that is too long be turned down. */
+static uint8_t table[KROSSVIL_TABLE_MAX + 1], journal[KROSSVIL_JOURNAL_MAX + 1], salvaged[KROSSVIL_SALVAGED_MAX];
 
 int main(int count, char **words)
 {
@@ -29,14 +29,12 @@ int main(int count, char **words)
         printf("refused %u at %u\n", krossvil_number(code), krossvil_place(code));
         return 1;
     }
-
-    /* What was kept of a journal that was not accepted has got an end field of 7 bytes. */
-    uint32_t kept = krossvil_read(answer, 0), number = krossvil_read(answer, 2);
-    if (!store(words[3], salvaged, number == 0 ? kept : kept + 7))
+    if (!store(words[3], salvaged, krossvil_salvaged_len(answer)))
         return 2;
-    printf("kept=%u dropped=%u", kept, krossvil_read(answer, 1));
+    printf("kept=%u dropped=%u", krossvil_answer(answer, KROSSVIL_SALVAGE_KEPT), krossvil_answer(answer, KROSSVIL_SALVAGE_DROPPED));
+    uint32_t number = krossvil_answer(answer, KROSSVIL_SALVAGE_NUMBER);
     if (number != 0)
-        printf(" refused %u at %u", number, krossvil_read(answer, 3));
+        printf(" refused %u at %u", number, krossvil_answer(answer, KROSSVIL_SALVAGE_PLACE));
     printf("\n");
     return 0;
 }

@@ -11,8 +11,8 @@
 #include "files.h"
 #include "krossvil.h"
 
-/* A table has at most 1,626 bytes; one byte more than the longest journal lets a file that is too long be turned down as such. */
-static uint8_t table[2048], journal[KROSSVIL_JOURNAL_MAX + 1];
+/* One byte more than the longest lets a file that is too long be turned down. */
+static uint8_t table[KROSSVIL_TABLE_MAX + 1], journal[KROSSVIL_JOURNAL_MAX + 1];
 static uint64_t report[KROSSVIL_REPORT_MAX]; /* zeros to begin with */
 
 static void print_refusal(const char *name, uint64_t code)
@@ -20,15 +20,14 @@ static void print_refusal(const char *name, uint64_t code)
     printf("%s: refused %u at %u\n", name, krossvil_number(code), krossvil_place(code));
 }
 
-/* A table that passes has Q and I at places 3 and 4. */
-static void print_report(uint32_t states, uint32_t inputs)
+static void print_report(uint32_t state_count, uint32_t input_count)
 {
-    const uint64_t *dwell = report + 1, *pairs = dwell + states, *entries = pairs + states * inputs;
-    printf("journals=%" PRIu64 "\n", report[0]);
-    for (uint32_t q = 0; q < states; q++) {
-        printf("state %u: slots=%" PRIu64 " entries=%" PRIu64 " by input", q, dwell[q], entries[q]);
-        for (uint32_t a = 0; a < inputs; a++)
-            printf(" %" PRIu64, pairs[q * inputs + a]);
+    printf("journals=%" PRIu64 "\n", report[KROSSVIL_REPORT_ADDED]);
+    for (uint32_t q = 0; q < state_count; q++) {
+        printf("state %u: slots=%" PRIu64 " entries=%" PRIu64 " by input", q, report[krossvil_dwell_at(q)],
+               report[krossvil_entries_at(state_count, input_count, q)]);
+        for (uint32_t a = 0; a < input_count; a++)
+            printf(" %" PRIu64, report[krossvil_pair_at(state_count, input_count, q, a)]);
         printf("\n");
     }
 }
@@ -49,11 +48,12 @@ int main(int count, char **words)
         print_refusal(words[1], code);
         return 1;
     }
+    uint32_t state_count = krossvil_table_states(table), input_count = krossvil_table_inputs(table);
 
     for (int k = 2; k < count; k++) {
         if (!load(words[k], journal, sizeof journal, &size))
             return 2;
-        code = krossvil_report_add(table, table_size, journal, size, report, krossvil_report_len(table[3], table[4]));
+        code = krossvil_report_add(table, table_size, journal, size, report, krossvil_report_len(state_count, input_count));
         if (code != 0) {
             print_refusal(words[k], code);
             refused = 1;
@@ -61,6 +61,6 @@ int main(int count, char **words)
             printf("%s: added\n", words[k]);
         }
     }
-    print_report(table[3], table[4]);
+    print_report(state_count, input_count);
     return refused;
 }

@@ -10,9 +10,8 @@
 #include "files.h"
 #include "krossvil.h"
 
-/* A table has at most 1,626 bytes; one byte more than the longest journal of either form lets a file that is too long be turned
- * down as such. */
-static uint8_t table[2048], given[KROSSVIL_SHORT_MAX + 1], written[KROSSVIL_JOURNAL_MAX];
+/* One byte more than the longest lets a file that is too long be turned down. */
+static uint8_t table[KROSSVIL_TABLE_MAX + 1], given[KROSSVIL_SHORT_MAX + 1], written[KROSSVIL_JOURNAL_MAX];
 
 int main(int count, char **words)
 {
@@ -26,15 +25,15 @@ int main(int count, char **words)
     if (!load(words[1], table, sizeof table, &table_size) || !load(words[2], given, sizeof given, &size))
         return 2;
 
-    /* A short journal begins with the tag 30. What begins with anything else is a journal or is refused as one. */
-    uint64_t code = (size > 0 && given[0] == 0x30 ? krossvil_lengthen : krossvil_shorten)(
+    /* What does not begin as a short journal does is a journal or is refused as one. */
+    uint64_t code = (size > 0 && given[0] == KROSSVIL_SHORT_OPENING ? krossvil_lengthen : krossvil_shorten)(
         table, table_size, given, size, written, sizeof written, answer, sizeof answer);
     if (code != 0) {
         printf("refused %u at %u\n", krossvil_number(code), krossvil_place(code));
         return 1;
     }
-    if (!store(words[3], written, krossvil_read(answer, 0)))
+    if (!store(words[3], written, krossvil_answer(answer, KROSSVIL_WRITTEN)))
         return 2;
-    printf("bytes=%u\n", krossvil_read(answer, 0));
+    printf("bytes=%u\n", krossvil_answer(answer, KROSSVIL_WRITTEN));
     return 0;
 }

@@ -10,8 +10,8 @@
 #include "krossvil.h"
 #include "numbers.h"
 
-/* A table that passes has at most 1,626 bytes. */
-static uint8_t table[2048];
+/* One byte more than the longest lets a file that is too long be turned down. */
+static uint8_t table[KROSSVIL_TABLE_MAX + 1];
 
 int main(int count, char **words)
 {
@@ -31,6 +31,7 @@ int main(int count, char **words)
         printf("refused %u at %u\n", krossvil_number(code), krossvil_place(code));
         return 1;
     }
-    printf("time=%u target=%u tight=%u\n", krossvil_read(answer, 0), krossvil_read(answer, 1), krossvil_read(answer, 2));
+    printf("time=%u target=%u tight=%u\n", krossvil_answer(answer, KROSSVIL_REACTION_TIME),
+           krossvil_answer(answer, KROSSVIL_REACTION_TARGET), krossvil_answer(answer, KROSSVIL_TIGHT_TIME));
     return 0;
 }

@@ -9,7 +9,7 @@
 #include "files.h"
 #include "krossvil.h"
 
-/* One byte more than the longest stamped journal lets a file that is too long be turned down as such. */
+/* One byte more than the longest lets a file that is too long be turned down. */
 static uint8_t stamped[KROSSVIL_STAMPED_MAX + 1], journal[KROSSVIL_JOURNAL_MAX];
 
 int main(int count, char **words)
@@ -29,8 +29,8 @@ int main(int count, char **words)
         printf("refused %u at %u\n", krossvil_number(code), krossvil_place(code));
         return 1;
     }
-    if (!store(words[2], journal, krossvil_read(answer, 0)))
+    if (!store(words[2], journal, krossvil_answer(answer, KROSSVIL_WRITTEN)))
         return 2;
-    printf("bytes=%u\n", krossvil_read(answer, 0));
+    printf("bytes=%u\n", krossvil_answer(answer, KROSSVIL_WRITTEN));
     return 0;
 }

@@ -9,7 +9,7 @@
 #include <string.h>
 #include <time.h>
 
-enum { ROUNDS = 61, ROTATION = 16, ROUND_NS = 400000, TABLE_ROOM = 1626 };
+enum { ROUNDS = 61, ROTATION = 16, ROUND_NS = 400000 };
 
 /* ---- chance ---- */
 
@@ -26,7 +26,7 @@ static uint32_t below(uint32_t count)
 /* ---- inputs ---- */
 
 struct input {
-    uint8_t table[TABLE_ROOM], stimulus[KROSSVIL_STIMULUS_MAX], journal[KROSSVIL_JOURNAL_MAX];
+    uint8_t table[KROSSVIL_TABLE_MAX], stimulus[KROSSVIL_STIMULUS_MAX], journal[KROSSVIL_JOURNAL_MAX];
     uint8_t short_journal[KROSSVIL_SHORT_MAX];
     size_t table_len, stimulus_len, journal_len, short_len;
     uint32_t states, inputs, bound, count_of_inputs, moves;
@@ -170,18 +170,19 @@ static void make_run(struct input *in, bool irregular, size_t size, size_t recor
 {
     uint32_t time = 0;
     size_t records = 0;
-    uint8_t answer[4];
+    uint8_t answer[KROSSVIL_RUN_ANSWER];
     in->stimulus_len = 0;
     head(in->stimulus, &in->stimulus_len, 0x20, 1);
     add(in->stimulus, &in->stimulus_len, 0);
     for (uint32_t k = 0; 11 + record * (records + 5) <= size && in->stimulus_len + 44 <= KROSSVIL_STIMULUS_MAX; k++)
         time = add_cycle(in, time, irregular, k, &records);
     add_event(in, 0x2F, time);
-    must_pass(plain_run(in->table, in->table_len, in->stimulus, in->stimulus_len, in->journal, sizeof in->journal, answer, 4));
-    in->journal_len = krossvil_read(answer, 0);
+    must_pass(plain_run(in->table, in->table_len, in->stimulus, in->stimulus_len, in->journal, sizeof in->journal, answer,
+                        sizeof answer));
+    in->journal_len = krossvil_answer(answer, KROSSVIL_WRITTEN);
     must_pass(krossvil_shorten(in->table, in->table_len, in->journal, in->journal_len, in->short_journal,
-                               sizeof in->short_journal, answer, 4));
-    in->short_len = krossvil_read(answer, 0);
+                               sizeof in->short_journal, answer, sizeof answer));
+    in->short_len = krossvil_answer(answer, KROSSVIL_WRITTEN);
 }
 
 /* ---- jobs ---- */
@@ -199,23 +200,24 @@ static uint64_t call(enum job job, bool library, const struct input *in, uint8_t
         return (library ? krossvil_check_table : plain_check_table)(in->table, in->table_len);
     case CHECK_JOURNAL:
         return (library ? krossvil_check_journal : plain_check_journal)(in->table, in->table_len, in->journal,
-                                                                        in->journal_len, answer, 28);
+                                                                        in->journal_len, answer, KROSSVIL_JOURNAL_ANSWER);
     case CHECK_SHORT:
         return (library ? krossvil_check_short : plain_check_short)(in->table, in->table_len, in->short_journal,
-                                                                    in->short_len, answer, 28);
+                                                                    in->short_len, answer, KROSSVIL_SHORT_ANSWER);
     case RUN:
         return (library ? krossvil_run : plain_run)(in->table, in->table_len, in->stimulus, in->stimulus_len, room,
-                                                    sizeof room, answer, 4);
+                                                    sizeof room, answer, KROSSVIL_RUN_ANSWER);
     case REPORT_ADD:
-        sums[0] = 0; /* so that it is never full */
+        sums[KROSSVIL_REPORT_ADDED] = 0; /* so that it is never full */
         return (library ? krossvil_report_add : plain_report_add)(in->table, in->table_len, in->journal, in->journal_len,
                                                                   sums, KROSSVIL_REPORT_MAX);
     case REACTION_MOVES:
         return (library ? krossvil_reaction_moves : plain_reaction_moves)(in->table, in->table_len, in->states, in->inputs, in->moves,
                                                                           path_sums, KROSSVIL_SUMS_MAX, room, KROSSVIL_PATH_MAX,
-                                                                          answer, 12);
+                                                                          answer, KROSSVIL_MOVES_ANSWER);
     default:
-        return (library ? krossvil_reaction : plain_reaction)(in->table, in->table_len, in->states, in->inputs, answer, 8);
+        return (library ? krossvil_reaction : plain_reaction)(in->table, in->table_len, in->states, in->inputs, answer,
+                                                              KROSSVIL_REACTION_ANSWER);
     }
 }
 
@@ -237,7 +239,7 @@ static void same_answers(enum job job)
     static uint64_t first_sums[KROSSVIL_REPORT_MAX];
     static uint32_t first_path_sums[KROSSVIL_SUMS_MAX];
     for (int k = 0; k < ROTATION; k++) {
-        uint8_t a[28] = { 0 }, b[28] = { 0 };
+        uint8_t a[KROSSVIL_JOURNAL_ANSWER] = { 0 }, b[KROSSVIL_JOURNAL_ANSWER] = { 0 };
         memset(room, 0, sizeof room);
         memset(sums, 0, sizeof sums);
         memset(path_sums, 0, sizeof path_sums);
@@ -271,7 +273,7 @@ static volatile uint64_t sink;
 /* Nanoseconds a call, over the rotation so many times. */
 static double time_calls(enum job job, bool library, int times)
 {
-    uint8_t answer[28];
+    uint8_t answer[KROSSVIL_JOURNAL_ANSWER];
     uint64_t sum = 0;
     double start = now();
     for (int n = 0; n < times; n++)
@@ -298,7 +300,7 @@ __attribute__((noinline)) static void mark(void)
 
 static void count(const char *name, enum job job)
 {
-    uint8_t answer[28];
+    uint8_t answer[KROSSVIL_JOURNAL_ANSWER];
     mark();
     sink = call(job, true, &inputs[0], answer);
     mark();

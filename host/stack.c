@@ -172,13 +172,13 @@ static int measure_on(const char *kind, const uint8_t *bytes, size_t len)
         make_stimulus(sizes[k]);
         good += measure("run", run, KROSSVIL_RUN_STACK);
     }
-    journal_len = krossvil_read(answer, 0);
+    journal_len = krossvil_answer(answer, KROSSVIL_WRITTEN);
     good += measure("check_journal", check_journal, KROSSVIL_STACK);
     good += measure("check_table", check_table, KROSSVIL_STACK);
     good += measure("salvage", salvage, KROSSVIL_STACK);
     good += measure("report_add", report_add, KROSSVIL_STACK);
     good += measure("shorten", shorten, KROSSVIL_STACK);
-    short_len = krossvil_read(answer, 0);
+    short_len = krossvil_answer(answer, KROSSVIL_WRITTEN);
     good += measure("check_short", check_short, KROSSVIL_STACK);
     good += measure("lengthen", lengthen, KROSSVIL_STACK);
     return good;

@@ -1,6 +1,7 @@
 #!/usr/bin/env bash
 # Holds the library against the reference in C (host/differential.c), then shows that the same test catches each of the
-# reference's faults. Runs the example hosts, and measures how much stack the functions need.
+# reference's faults. Tries the header, looks at what the archive needs, runs the example hosts, and measures how much stack the functions
+# need.
 # The last line is `N passed, M failed`.
 #
 #   host/test-differential.sh [--self] [CASES [SEED]]
@@ -39,6 +40,7 @@ stop() { # MESSAGE: nothing more can be tried
 # shellcheck source=host/x86-64.sh
 . host/x86-64.sh
 install_missing || stop "could not install what is missing"
+echo | "$own" -xc++ -fsyntax-only - 2>/dev/null || install_packages g++ || stop "could not install g++"
 
 mkdir -p "$out" || stop "could not make $out"
 if [ "$self" = no ]; then
@@ -93,13 +95,37 @@ if [ "$native" = yes ]; then
     try sanitized "$sanitized_cases" "$((seed + 1))"
 fi
 
-# What the example hosts call: the library, or with --self the second reference by the library's names.
+# What the header's test and the example hosts call: the library, or with --self the second reference by the library's names.
 called=("$library")
 if [ "$self" = yes ]; then
     called=("$out/differential-second.o")
     for entry in check_table check_journal run reaction reaction_moves reaction_tight convert_table read_stamped check_short shorten lengthen salvage report_add; do
         called+=("-Dkrossvil_$entry=second_$entry")
     done
+fi
+
+succeeds() { # WHAT COMMAND...
+    if "${@:2}"; then
+        echo "$1"
+        passed=$((passed + 1))
+    else
+        echo "WRONG: $1"
+        failed=$((failed + 1))
+    fi
+}
+
+echo "== the header"
+strict=(-Wall -Wextra -pedantic -Wconversion -Werror -Iinclude -fsyntax-only)
+for standard in c99 c11 c2x c++17; do
+    succeeds "as $standard without a warning" "$own" -x "${standard%%[0-9]*}" -std="$standard" "${strict[@]}" host/header.c
+done
+compile host/header.c "${called[@]}" "${link[@]}" -o "$out/header" || stop "did not build"
+try header 0 0
+
+if [ "$self" = no ]; then
+    echo "== what the archive needs"
+    needed=$("${compiler%gcc}nm" -u -f posix "$library" | awk 'NF > 1 { print $1 }' | sort -u | xargs)
+    succeeds "memcpy and memset only: $needed" [ "$needed" = 'memcpy memset' ]
 fi
 
 echo "== the example host"

@@ -12,10 +12,10 @@
  * of bytes, in the processor's own byte order: the sums of krossvil_reaction_moves and the report of krossvil_report_add.
  *
  * The number that comes back. 0 is success. Otherwise it is refusal number * 2^32 + place: krossvil_number and krossvil_place
- * below take it apart. On a refusal no byte of any slice has changed.
+ * below take it apart, and krossvil_refusal names the numbers. On a refusal no byte of any slice has changed.
  *
  * The answer. On success the answer's numbers stand at the start of `answer`, four bytes each, most significant byte first
- * (krossvil_read reads one), and its other bytes are unchanged. If `answer` is too short for them the refusal is 30 at 0; that is
+ * (krossvil_answer reads one), and its other bytes are unchanged. If `answer` is too short for them the refusal is 30 at 0; that is
  * checked last of all, so any other refusal comes before it.
  *
  * Bytes. Each field is a tag byte, a two-byte length, then the value; all numbers are unsigned, most significant byte first.
@@ -70,55 +70,6 @@
  *     3F  2    end: gap
  *   With n records between opening and end a short journal has 9 + 6*n bytes, and the journal that it stands for 11 + 8*n. So one of
  *   more than 49,152 bytes, with 8,191 records or more, stands for a journal that would be too long.
- *
- * Refusals. A place is a byte offset, counted from 0, in the bytes that were turned down, save for 9, 10, 14, 32 and 33.
- *      1  table runs out before field 06, or 08, is complete      start of the field
- *      2  table field has the wrong tag or length                 start of the field
- *      3  a count or the initial state is out of range            start of the field
- *      4  E out of range                                          start of the field
- *      5  output or next state out of range                       first such entry
- *      6  hold too long                                           first such entry
- *      7  delayed set names an input at or above I                first such entry
- *      8  bytes after field 06, or 08                             first of them
- *      9  calculator: a set names a member that does not exist    0 states, 1 inputs
- *     10  calculator: some next(p, a) is outside the states       smallest p*I + a
- *     11  delayed set not empty on a state whose hold is 0        first such entry
- *     12  region names a state at or above Q, or a timer's set
- *         an input at or above I                                  first such entry
- *     13  timer's length is 0 or too long                         first such entry
- *     14  calculator: the table has timers                        0
- *     19  journal of any kind, or stimulus, too long              0
- *     20  bytes run out before the end field is complete          start of the field
- *     21  unknown tag, or wrong length for the tag                start of the field
- *     22  first field is not the opening one, a second opening,
- *         or bytes after the end field                            start of the field or bytes
- *     23  time, input, verdict or state out of range              start of the field
- *     24  time earlier than the record before; never in a short
- *         journal                                                 start of the field
- *     25  later than cycle start + E                              start of the field
- *     26  record not allowed in this phase                        start of the field
- *     27  poll not later than last change, or than cycle start    start of the field
- *     28  polled input, verdict or state differs from the
- *         machine's                                               start of the field
- *     30  buffer shorter than the journal, the short journal or
- *         the table that is written; any function with an
- *         answer: it is too short; the report is too short        0
- *     32  several moves: more than 32                             0
- *     33  several moves: fewer sums than moves*Q, or a path of
- *         fewer bytes than 2*moves - 1, for 0 moves than none     0
- *     34  lengthening: the journal would pass 65,536 bytes        0
- *     35  the report has 1,000 journals already                   0
- *
- * The table's refusals, 1 to 8 and 11 to 13, come before all others: field by field; in field 06 entry by entry, each for 7 and
- * then for 11; in field 07 timer by timer, each for 13 at its length and then for 12 at its region; 8 is the last of them. Then,
- * of a journal, a stimulus or a short journal, 19, and field by field 20 to 28; of a stamped journal, which has no table, 19, and
- * field by field 20 to 22; of the calculators, 14, 9 for the states, 9 for the inputs, 10; of several moves the same with 32 before 10
- * and 33 after it. Then, of krossvil_lengthen, 34. Then 30.
- * Of krossvil_report_add, after those of the journal, 30 if the report has no number at all, then 35, then 30.
- * krossvil_salvage gives 20 to 23 only at 0, for the opening field: it salvages from all that is wrong behind that.
- * The table check has no answer, and gives 1 to 8 and 11 to 13 only. The converter gives none of 11 to 14: it takes tables with holds
- * only, and field 07 is 2 to it. 29, a run's journal that would pass 65,536 bytes, is no longer given, since no run makes one; the
- * number is not used again.
  */
 #ifndef KROSSVIL_H
 #define KROSSVIL_H
@@ -130,25 +81,71 @@
 extern "C" {
 #endif
 
-#define KROSSVIL_JOURNAL_MAX 65536u /* a journal buffer of this size is never too short (proved: no run makes more than 65,531) */
+#define KROSSVIL_VERSION "1.0.0"
+#define KROSSVIL_VERSION_NUMBER 1000000 /* the same, to be compared: 1,000,000 * major + 1,000 * minor + patch */
+
+/* ---- Refusals ---- */
+
+/* Each says what is wrong and, behind the bar, at which place. A place is a byte offset, counted from 0, in the bytes that were turned
+ * down, save for 9, 10, 14, 32 and 33. */
+enum krossvil_refusal {
+    KROSSVIL_TABLE_RUNS_OUT = 1,          /* table runs out before field 06, or 08, is complete | start of the field */
+    KROSSVIL_TABLE_WRONG_FIELD = 2,       /* table field has the wrong tag or length | start of the field */
+    KROSSVIL_COUNT_OUT_OF_RANGE = 3,      /* a count or the initial state is out of range | start of the field */
+    KROSSVIL_BOUND_OUT_OF_RANGE = 4,      /* E out of range | start of the field */
+    KROSSVIL_ENTRY_OUT_OF_RANGE = 5,      /* output or next state out of range | first such entry */
+    KROSSVIL_HOLD_TOO_LONG = 6,           /* hold too long | first such entry */
+    KROSSVIL_UNKNOWN_INPUT_DELAYED = 7,   /* delayed set names an input at or above I | first such entry */
+    KROSSVIL_BYTES_AFTER_TABLE = 8,       /* bytes after field 06, or 08 | first of them */
+    KROSSVIL_UNKNOWN_MEMBER = 9,          /* calculator: a set names a member that does not exist | 0 states, 1 inputs */
+    KROSSVIL_LEAVES_STATES = 10,          /* calculator: some next(p, a) is outside the states | smallest p*I + a */
+    KROSSVIL_IDLE_SET = 11,               /* delayed set not empty on a state whose hold is 0 | first such entry */
+    KROSSVIL_TIMER_UNKNOWN_MEMBER = 12,   /* region names a state at or above Q, or a timer's set an input at or above I | first such entry */
+    KROSSVIL_TIMER_OUT_OF_RANGE = 13,     /* timer's length is 0 or too long | first such entry */
+    KROSSVIL_HAS_TIMERS = 14,             /* calculator: the table has timers | 0 */
+    KROSSVIL_TOO_LONG = 19,               /* journal of any kind, or stimulus, too long | 0 */
+    KROSSVIL_RUNS_OUT = 20,               /* bytes run out before the end field is complete | start of the field */
+    KROSSVIL_WRONG_FIELD = 21,            /* unknown tag, or wrong length for the tag | start of the field */
+    KROSSVIL_MISPLACED = 22,              /* first field is not the opening one, a second opening, or bytes after the end field | their start */
+    KROSSVIL_OUT_OF_RANGE = 23,           /* time, input, verdict or state out of range | start of the field */
+    KROSSVIL_TIME_GOES_BACK = 24,         /* time earlier than the record before; never in a short journal | start of the field */
+    KROSSVIL_PAST_BOUND = 25,             /* later than cycle start + E | start of the field */
+    KROSSVIL_WRONG_PHASE = 26,            /* record not allowed in this phase | start of the field */
+    KROSSVIL_POLL_TOO_SOON = 27,          /* poll not later than last change, or than cycle start | start of the field */
+    KROSSVIL_DIFFERS = 28,                /* polled input, verdict or state differs from the machine's | start of the field */
+    KROSSVIL_TOO_SHORT = 30,              /* what is lent is too short: the buffer for what is written, the answer or the report | 0 */
+    KROSSVIL_TOO_MANY_MOVES = 32,         /* several moves: more than 32 | 0 */
+    KROSSVIL_SUMS_OR_PATH_TOO_SHORT = 33, /* several moves: fewer than krossvil_sums_len or krossvil_path_len asks for | 0 */
+    KROSSVIL_WOULD_BE_TOO_LONG = 34,      /* lengthening: the journal would pass 65,536 bytes | 0 */
+    KROSSVIL_REPORT_FULL = 35,            /* the report has 1,000 journals already | 0 */
+};
+
+/* The table's refusals, 1 to 8 and 11 to 13, come before all others: field by field; in field 06 entry by entry, each for 7 and
+ * then for 11; in field 07 timer by timer, each for 13 at its length and then for 12 at its region; 8 is the last of them. Then,
+ * of a journal, a stimulus or a short journal, 19, and field by field 20 to 28; of a stamped journal, which has no table, 19, and
+ * field by field 20 to 22; of the calculators, 14, 9 for the states, 9 for the inputs, 10; of several moves the same with 32 before 10
+ * and 33 after it. Then, of krossvil_lengthen, 34. Then 30.
+ * Of krossvil_report_add, after those of the journal, 30 if the report has no number at all, then 35, then 30.
+ * krossvil_salvage gives 20 to 23 only at 0, for the opening field: it salvages from all that is wrong behind that.
+ * The table check has no answer, and gives 1 to 8 and 11 to 13 only. The converter gives none of 11 to 14: it takes tables with holds
+ * only, and field 07 is 2 to it. 29, a run's journal that would pass 65,536 bytes, is no longer given, since no run makes one; the
+ * number is not used again. */
+
+/* ---- Sizes ---- */
+
+/* Of what is read: more is too long. A table has no refusal for that; none with more bytes passes (proved). */
+#define KROSSVIL_TABLE_MAX 1626u
+#define KROSSVIL_JOURNAL_MAX 65536u
 #define KROSSVIL_STIMULUS_MAX 57344u
-#define KROSSVIL_STAMPED_MAX 49152u /* what is read from so many bytes has at most 65,531 */
-#define KROSSVIL_SHORT_MAX 65536u   /* what krossvil_shorten writes has at most 49,152: a buffer of so many is never too short */
+#define KROSSVIL_STAMPED_MAX 49152u
+#define KROSSVIL_SHORT_MAX 65536u
+
+/* Of what is written: a buffer of so many bytes is never too short (proved). */
+#define KROSSVIL_SALVAGED_MAX 65531u  /* for krossvil_salvage, krossvil_run, krossvil_read_stamped and krossvil_lengthen */
+#define KROSSVIL_SHORTENED_MAX 49149u /* for krossvil_shorten */
 
 #define KROSSVIL_RUN_STACK 80000u /* bytes of stack that are enough for krossvil_run and krossvil_read_stamped */
 #define KROSSVIL_STACK 16000u     /* and for the other functions */
-
-#define KROSSVIL_JOURNAL_ANSWER 28u /* bytes of answer on success: T, ticks, moves, last state, its output, left, longest */
-#define KROSSVIL_RUN_ANSWER 4u      /* the journal's length in bytes */
-#define KROSSVIL_REACTION_ANSWER 8u /* reaction time, target set */
-#define KROSSVIL_MOVES_ANSWER 12u   /* reaction time, target set, the path's length in bytes */
-#define KROSSVIL_TIGHT_ANSWER 12u   /* reaction time, target set, tight time */
-#define KROSSVIL_CONVERT_ANSWER 4u  /* how many states have changed */
-#define KROSSVIL_STAMPED_ANSWER 4u  /* the journal's length in bytes */
-#define KROSSVIL_SHORT_ANSWER 28u   /* as that of a journal */
-#define KROSSVIL_SHORTEN_ANSWER 4u  /* the short journal's length in bytes */
-#define KROSSVIL_LENGTHEN_ANSWER 4u /* the journal's length in bytes */
-#define KROSSVIL_SALVAGE_ANSWER 16u /* bytes kept, bytes dropped, number and place of the refusal that stopped it */
 
 #define KROSSVIL_MOVES_MAX 32u  /* moves of one question */
 #define KROSSVIL_SUMS_MAX 1024u /* numbers, not bytes: so many sums are never too few */
@@ -156,6 +153,69 @@ extern "C" {
 
 #define KROSSVIL_REPORT_MAX 1089u      /* numbers, not bytes: a report of so many is never too short */
 #define KROSSVIL_REPORT_JOURNALS 1000u /* so many journals one report takes */
+
+/* ---- Answers ---- */
+
+/* How many bytes an answer has on success. */
+#define KROSSVIL_JOURNAL_ANSWER 28u
+#define KROSSVIL_RUN_ANSWER 4u
+#define KROSSVIL_REACTION_ANSWER 8u
+#define KROSSVIL_MOVES_ANSWER 12u
+#define KROSSVIL_TIGHT_ANSWER 12u
+#define KROSSVIL_CONVERT_ANSWER 4u
+#define KROSSVIL_STAMPED_ANSWER 4u
+#define KROSSVIL_SHORT_ANSWER 28u
+#define KROSSVIL_SHORTEN_ANSWER 4u
+#define KROSSVIL_LENGTHEN_ANSWER 4u
+#define KROSSVIL_SALVAGE_ANSWER 16u
+
+/* Where its numbers stand: krossvil_answer below reads the one at a place. */
+enum {
+    /* krossvil_check_journal and krossvil_check_short */
+    KROSSVIL_JOURNAL_END = 0, /* T */
+    KROSSVIL_JOURNAL_TICKS = 1,
+    KROSSVIL_JOURNAL_MOVES = 2,
+    KROSSVIL_JOURNAL_STATE = 3,  /* the last one */
+    KROSSVIL_JOURNAL_OUTPUT = 4, /* that of the last state */
+    KROSSVIL_JOURNAL_LEFT = 5,
+    KROSSVIL_JOURNAL_LONGEST = 6,
+
+    /* krossvil_run, krossvil_read_stamped, krossvil_shorten and krossvil_lengthen: how many bytes were written */
+    KROSSVIL_WRITTEN = 0,
+
+    /* krossvil_reaction, krossvil_reaction_moves and krossvil_reaction_tight */
+    KROSSVIL_REACTION_TIME = 0,
+    KROSSVIL_REACTION_TARGET = 1, /* a set */
+    KROSSVIL_MOVES_PATH = 2,      /* krossvil_reaction_moves: the path's length in bytes */
+    KROSSVIL_TIGHT_TIME = 2,      /* krossvil_reaction_tight */
+
+    /* krossvil_convert_table: how many states have changed */
+    KROSSVIL_CONVERT_CHANGED = 0,
+
+    /* krossvil_salvage: bytes kept and dropped, number and place of the refusal that stopped it */
+    KROSSVIL_SALVAGE_KEPT = 0,
+    KROSSVIL_SALVAGE_DROPPED = 1,
+    KROSSVIL_SALVAGE_NUMBER = 2, /* 0 if none did: the journal is accepted */
+    KROSSVIL_SALVAGE_PLACE = 3,
+};
+
+/* ---- Forms and phases ---- */
+
+/* The first byte of each form. A stamped journal begins as a journal does. */
+enum krossvil_opening {
+    KROSSVIL_JOURNAL_OPENING = 0x10,
+    KROSSVIL_STIMULUS_OPENING = 0x20,
+    KROSSVIL_SHORT_OPENING = 0x30,
+};
+
+enum krossvil_phase {
+    KROSSVIL_PHASE_BEFORE_POLL = 0,
+    KROSSVIL_PHASE_BEFORE_TEST = 1,
+    KROSSVIL_PHASE_HELD = 2,
+    KROSSVIL_PHASE_FREE = 3,
+};
+
+/* ---- Functions ---- */
 
 /* Does the table pass? There are no further numbers. */
 uint64_t krossvil_check_table(const uint8_t *table, size_t table_len);
@@ -200,9 +260,9 @@ uint64_t krossvil_reaction_moves(const uint8_t *table, size_t table_len, uint32_
                                  uint8_t *answer, size_t answer_len);
 
 /* How many sums there must be, for so many states and moves, and how many bytes of path. */
-static inline size_t krossvil_sums_len(uint32_t states, uint32_t moves)
+static inline size_t krossvil_sums_len(uint32_t state_count, uint32_t moves)
 {
-    return (size_t)states * moves;
+    return (size_t)state_count * moves;
 }
 
 static inline size_t krossvil_path_len(uint32_t moves)
@@ -277,22 +337,54 @@ uint64_t krossvil_salvage(const uint8_t *table, size_t table_len, const uint8_t 
 uint64_t krossvil_report_add(const uint8_t *table, size_t table_len, const uint8_t *journal, size_t journal_len,
                              uint64_t *report, size_t report_len);
 
-/* How many numbers a report has. */
-static inline size_t krossvil_report_len(uint32_t states, uint32_t inputs)
+/* How many numbers a report has, and where in it they stand. */
+static inline size_t krossvil_report_len(uint32_t state_count, uint32_t input_count)
 {
-    return 1 + 2 * (size_t)states + (size_t)states * inputs;
+    return 1 + 2 * (size_t)state_count + (size_t)state_count * input_count;
 }
+
+#define KROSSVIL_REPORT_ADDED 0u /* how many journals were added */
+
+static inline size_t krossvil_dwell_at(uint32_t state) { return 1 + (size_t)state; }
+
+static inline size_t krossvil_pair_at(uint32_t state_count, uint32_t input_count, uint32_t state, uint32_t input)
+{
+    return 1 + (size_t)state_count + (size_t)state * input_count + input;
+}
+
+static inline size_t krossvil_entries_at(uint32_t state_count, uint32_t input_count, uint32_t state)
+{
+    return 1 + (size_t)state_count + (size_t)state_count * input_count + state;
+}
+
+/* ---- What comes back, taken apart ---- */
 
 static inline uint32_t krossvil_number(uint64_t code) { return (uint32_t)(code >> 32); }
 
 static inline uint32_t krossvil_place(uint64_t code) { return (uint32_t)code; }
 
-/* The answer's number k, counted from 0. */
-static inline uint32_t krossvil_read(const uint8_t *answer, size_t k)
+/* The answer's number at a place, which has a name above. */
+static inline uint32_t krossvil_answer(const uint8_t *answer, size_t place)
 {
-    const uint8_t *b = answer + 4 * k;
+    const uint8_t *b = answer + 4 * place;
     return (uint32_t)b[0] << 24 | (uint32_t)b[1] << 16 | (uint32_t)b[2] << 8 | (uint32_t)b[3];
 }
+
+/* The same, for hosts that were written before places had names. */
+static inline uint32_t krossvil_read(const uint8_t *answer, size_t k) { return krossvil_answer(answer, k); }
+
+/* How many bytes krossvil_salvage wrote: those kept and, where something was refused, an end field. */
+static inline size_t krossvil_salvaged_len(const uint8_t *answer)
+{
+    return (size_t)krossvil_answer(answer, KROSSVIL_SALVAGE_KEPT) + (krossvil_answer(answer, KROSSVIL_SALVAGE_NUMBER) == 0 ? 0 : 7);
+}
+
+/* Q, I and O of a table that passes. */
+static inline uint32_t krossvil_table_states(const uint8_t *table) { return table[3]; }
+
+static inline uint32_t krossvil_table_inputs(const uint8_t *table) { return table[4]; }
+
+static inline uint32_t krossvil_table_outputs(const uint8_t *table) { return table[5]; }
 
 #ifdef __cplusplus
 }

@@ -3,7 +3,7 @@
 
 #include <stdio.h>
 
-static uint8_t table[70000], journal[65537];
+static uint8_t table[KROSSVIL_TABLE_MAX + 1], journal[KROSSVIL_JOURNAL_MAX + 1];
 
 static size_t read_file(const char *path, uint8_t *room, size_t size) {
     FILE *file = fopen(path, "rb");
@@ -17,7 +17,7 @@ static size_t read_file(const char *path, uint8_t *room, size_t size) {
 int main(int count, char **files) {
     size_t table_length = read_file(files[1], table, sizeof table);
     for (int k = 2; k < count; k++) {
-        uint8_t answer[28];
+        uint8_t answer[KROSSVIL_JOURNAL_ANSWER];
         size_t length = read_file(files[k], journal, sizeof journal);
         uint64_t code = krossvil_check_journal(table, table_length, journal, length, answer, sizeof answer);
         printf("%s: %s\n", files[k], code == 0 ? "accepted" : "refused");

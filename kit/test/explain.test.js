@@ -33,8 +33,9 @@ test(`each number has a sample and a sentence: ${REFUSALS.length} samples`, () =
 });
 
 test('each number that the header lists has a meaning', () => {
-  const [, list] = /\n \* Refusals\.([^]*?)\n \*\n/.exec(readFileSync(new URL('../../include/krossvil.h', import.meta.url), 'utf8'));
-  const numbers = [...list.matchAll(/^ \* {5,6}([0-9]+)  /gm)].map(([, number]) => Number(number));
+  const header = readFileSync(new URL('../../include/krossvil.h', import.meta.url), 'utf8');
+  const [, list] = /^enum krossvil_refusal {([^}]*)}/m.exec(header);
+  const numbers = [...list.matchAll(/^ {4}KROSSVIL_[A-Z_]+ = ([0-9]+),/gm)].map(([, number]) => Number(number));
   assert.deepEqual([...MEANINGS.keys()], numbers);
 });
 

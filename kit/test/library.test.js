@@ -132,6 +132,11 @@ test('nothing that was given is changed, and answers do not share memory', () =>
   assert.ok(sameBytes(given, before) && sameBytes(first.bytes, before));
 });
 
+test("the header has the package's version", () => {
+  const [, version] = /^#define KROSSVIL_VERSION "(.*)"$/m.exec(header);
+  assert.equal(version, JSON.parse(readFileSync(new URL('../package.json', import.meta.url), 'utf8')).version);
+});
+
 test('every function of the header was called', () => {
   const declared = [...header.matchAll(/^uint64_t (krossvil_[a-z_]*)\(/gm)].map(([, name]) => name);
   assert.deepEqual(declared.filter((name) => !called.has(name)), []);
