@@ -119,8 +119,14 @@ strict=(-Wall -Wextra -pedantic -Wconversion -Werror -Iinclude -fsyntax-only)
 for standard in c99 c11 c2x c++17; do
     succeeds "as $standard without a warning" "$own" -x "${standard%%[0-9]*}" -std="$standard" "${strict[@]}" host/header.c
 done
-compile host/header.c "${called[@]}" "${link[@]}" -o "$out/header" || stop "did not build"
-try header 0 0
+for each in header refusals; do
+    compile "host/$each.c" "${called[@]}" "${link[@]}" -o "$out/$each" || stop "did not build"
+    try "$each" 0 0
+done
+untried=$(sed -n '/^enum krossvil_refusal/,/^}/s/^ *\(KROSSVIL_[A-Z_]*\) = .*/\1/p' include/krossvil.h | while read -r name; do
+    grep -qw "$name" host/header.c host/refusals.c || echo "$name"
+done)
+succeeds "refusals whose name is not tried: ${untried:-none}" [ -z "$untried" ]
 
 if [ "$self" = no ]; then
     echo "== what the archive needs"
