@@ -7,11 +7,10 @@ use native.Mathlib.Omega.{arith}
 use lib.ListN.{length, take-append-drop}
 use Rattle.wire.specs.Encode.{bytes32, placedIn}
 use Rattle.wire.proofs.Placed.{placed-length, placed-after}
-use Rattle.table.specs.Entries.{values}
+use Rattle.table.specs.Entries.{values, total}
 use Rattle.table.specs.Encode.{words}
 use Rattle.table.proofs.Values.{length-values}
 use Rattle.table.proofs.Words.{length-words, words-append}
-use Rattle.convert.specs.Convert.{total}
 
 pub record Writing (before : List ℕ) (at n : ℕ) (f g : ℕ → ℕ) (out : List ℕ) (changed k : ℕ) : Type 0 where
   pub some : k ≤ n

@@ -1,7 +1,7 @@
 -- The converter: a table that passes by the old rules, with those delayed sets emptied that do nothing. docs/RULES.md, "Tables".
 use mathlib.Core.List.{List, _++_}
 use mathlib.Core.Bool.{_&&_, not}
-use Prim.Native.Nat.{ℕ, zero, suc, _+_}
+use Prim.Native.Nat.{ℕ, _+_}
 use lib.ListN.{take}
 use Rattle.wire.specs.Choice.{_=?_, if_then_else_}
 use Rattle.wire.specs.Made.{Made, refused, made}
@@ -9,7 +9,7 @@ use Rattle.table.specs.declared.Counts.{Counts}
 use Rattle.table.specs.declared.Table.{Table}
 use Rattle.table.specs.Answer.{passes?}
 use Rattle.table.specs.Table.{holdOf, delayedOf}
-use Rattle.table.specs.Entries.{values, filled, zeros}
+use Rattle.table.specs.Entries.{values, total, filledTo, zeros}
 use Rattle.table.specs.Check.{wordEntry, holdField, delayedField, countsIn, oldAnswer}
 use Rattle.table.specs.Encode.{words}
 use Rattle.convert.specs.declared.Answer.{Answer}
@@ -44,14 +44,9 @@ withSets t sets = record {
 }
 
 unfoldable pub emptied : Table → Table
-emptied t = withSets t (filled (λ q. newSet (holdOf t q) (delayedOf t q)) (t .states) (zeros 32))
+emptied t = withSets t (filledTo (λ q. newSet (holdOf t q) (delayedOf t q)) (t .states) (zeros 32))
 
 -- ---- Its bytes
-
--- f 0 + f 1 + .. + f (n - 1)
-unfoldable pub total : (ℕ → ℕ) → ℕ → ℕ
-total f zero = 0
-total f (suc n) = total f n + f n
 
 -- By state, from the bytes of the table: where its holds and its sets stand, and what is asked of the two.
 abbrev pub byState : (ℕ → ℕ → ℕ) → List ℕ → (holds sets : ℕ) → ℕ → ℕ

@@ -17,7 +17,7 @@ use Rattle.table.proofs.Under.{under-either}
 use Rattle.records.specs.Form as form
 use Rattle.records.specs.Form.{short}
 use Rattle.machine.specs.Walk as walk
-use Rattle.machine.specs.Walk.{Run, ran, tooLong, runOver}
+use Rattle.machine.specs.Walk.{RunOverBytes, ran, tooLong, runOver}
 use Rattle.journal.specs.Answer as journal
 use Rattle.journal.specs.Check.{checkOf, checkShortOf}
 use Rattle.runtime.specs.Run.{runOf, answerOf}
@@ -92,7 +92,7 @@ tight-numbered (tight.Refused refusal) = reaction-numbered refusal
 
 moves-fits : (table : List ℕ) (P A n sums path : ℕ) → Fits (moves.replyOf (movesOf table P A n sums path))
 unfolding movesOf
-moves-fits table P A n sums path = go (moves.passes? (judgeOf table P A n sums path))
+moves-fits table P A n sums path = go (moves.judgedPasses? (judgeOf table P A n sums path))
   where
     go : (b : Bool) → Fits (moves.replyOf (if b then moved.Reacts (reactionOver (tableIn table) P A n) else moved.Refused (judgeOf table P A n sums path)))
     go true = record { number = omega arith; place = omega arith }
@@ -107,7 +107,7 @@ shortened-fits table s room =
     (under-either (λ a. refused (restate′.TableRefused a)) (λ t. restated short (runOver form.journal t s)) table (λ m. Fits (restate.replyOf (answerMade m)))
     (λ passes. go (runOver form.journal (tableIn table) s) (run-by form.journal (omega arith) (tableIn table) s)) (table-fits false table)) room
   where
-    go : (r : Run) → RunBy r → Fits (restate.replyOf (answerMade (restated short r)))
+    go : (r : RunOverBytes) → RunBy r → Fits (restate.replyOf (answerMade (restated short r)))
     go (ran input taken last) by = record { number = omega arith; place = omega arith }
     go tooLong by = record { number = omega arith; place = omega arith }
     go (walk.refused refusal place) by = record { number = refusal-small refusal; place = omega arith }

@@ -8,7 +8,7 @@ use Rattle.wire.specs.Encode.{Bytes}
 use Rattle.sets.proofs.Members.{below-limit}
 use Rattle.table.specs.declared.Table.{Table}
 use Rattle.table.specs.Table.{outputOf, WellFormed}
-use Rattle.table.specs.Encode as tables
+use Rattle.table.specs.Encode.{tableBytes}
 use Rattle.table.specs.declared.Answer.the-variants.{Passes}
 use Rattle.table.specs.Check.{tableAnswer, tableIn}
 use Rattle.records.specs.declared.Record.{Record}
@@ -18,7 +18,7 @@ use Rattle.records.specs.Form.{longestJournal}
 use Rattle.records.proofs.Written.{records-are-one, journal-recovers}
 use Rattle.records.specs.Record.{isTest}
 use Rattle.machine.specs.Machine.{start, left, after}
-use Rattle.machine.specs.Run.{Runs, ticksOf, movesOf, mostLeft}
+use Rattle.machine.specs.Run.{Runs, ticksOf, movesFrom, mostLeft}
 use Rattle.machine.specs.Walk.{inTable}
 use Rattle.machine.specs.declared.Machine.{Machine}
 use Rattle.machine.specs.Most.{MostOf}
@@ -27,7 +27,7 @@ use Rattle.machine.proofs.Left.{left-until-free, left-is-most}
 use Rattle.machine.proofs.Longest.{longest-is-cycle}
 use Rattle.journal.specs.declared.Numbers.{Numbers}
 use Rattle.journal.specs.declared.Answer.the-variants.{Accepted}
-use Rattle.journal.specs.Check.{answerIn, checkOf}
+use Rattle.journal.specs.Check.{checkUnder, checkOf}
 use Rattle.reaction.specs.declared.Answer.the-variants.{Reacts}
 use Rattle.reaction.specs.Reaction.{nextSet, reactionTime, reactionOf, reactOf}
 use Rattle.reaction.proofs.Meaning.{only-answer}
@@ -59,7 +59,7 @@ abbrev ran : Table → ℕ → ℕ → List Record → Machine → Numbers
 ran t input T before last = record {
   end = T;
   ticks = ticksOf before;
-  moves = movesOf (t .initial) before;
+  moves = movesFrom (t .initial) before;
   state = last .state;
   output = outputOf t (last .state);
   left = mostLeft t (start (t .initial) input) before;
@@ -94,7 +94,7 @@ longest-of t input rs last runs longest is = rw is (longest-is-cycle t (t .initi
 
 -- What the bytes of an accepted journal hold.
 module _ (table journal : List ℕ) (table-bytes : Bytes table) (bytes : Bytes journal) (n : Numbers) (answer : checkOf table journal ≡ Accepted n) where
-  found : (t : Table) × WellFormed t × (table ≡ tables.encode t) × AcceptedRun form.journal t journal n
+  found : (t : Table) × WellFormed t × (table ≡ tableBytes t) × AcceptedRun form.journal t journal n
   found = checks-exactly table journal table-bytes bytes n .0 answer
 
   abbrev all : List Record
@@ -140,7 +140,7 @@ module _ (table journal : List ℕ) (table-bytes : Bytes table) (bytes : Bytes j
 
 -- A run in bytes is accepted under its table, with its end.
 pub run-taken : {table journal : List ℕ} {T : ℕ} (r : HoldsRun table journal T) →
-    (n : Numbers) × (n .end ≡ T) × (answerIn form.journal (r .t) journal ≡ Accepted n)
+    (n : Numbers) × (n .end ≡ T) × (checkUnder form.journal (r .t) journal ≡ Accepted n)
 run-taken {table} {journal} {T} r =
     let h = r .holds in
     let records = h .before-end ++ End T ∷ [] in

@@ -8,6 +8,7 @@ use Rattle.wire.specs.Choice.{_<?_, if_then_else_}
 use Rattle.wire.specs.Made as Made′
 use Rattle.wire.specs.Made.{Made, answerIn, bufferIn}
 use Rattle.wire.specs.Reply.{Reply, gives, refuses, numberIn, valuesIn}
+use Rattle.table.specs.Encode.{words}
 use Rattle.records.proofs.Places.{refusal-numbered}
 use Rattle.runtime.specs.declared.Answer as runtime′
 use Rattle.runtime.specs.declared.Answer.the-variants as made
@@ -27,7 +28,7 @@ use Rattle.salvage.specs.declared.Answer as salvage′
 use Rattle.salvage.specs.declared.Answer.the-variants as salvaged
 use Rattle.salvage.specs.Answer as salvage-answer
 use Rattle.krossvil.proofs.Writers.{Gives}
-use Rattle.krossvil.specs.Host.{told, codeOf, numberBytes, answerAfter, bufferAfter}
+use Rattle.krossvil.specs.Host.{told, codeOf, answerAfter, bufferAfter}
 use Rattle.moves.specs.declared.Judged as judged′
 use Rattle.moves.specs.declared.Judged.the-variants as judged
 use Rattle.moves.specs.declared.Answer as moves′
@@ -37,7 +38,7 @@ use Rattle.moves.specs.declared.Answer.the-variants as reacted
 
 -- Where the host is not told 0, the answer buffer is as it was.
 pub answer-kept : (reply : Reply) (answer : List ℕ) → (codeOf reply ≡ 0 → ⊥) → answerAfter reply answer ≡ answer
-unfolding numberBytes
+unfolding words
 answer-kept (gives values) answer other = absurd (other refl)
 answer-kept (refuses number place) answer other = refl
 

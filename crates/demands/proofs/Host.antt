@@ -12,7 +12,7 @@ use Rattle.wire.specs.Made.{answerIn, bufferIn}
 use Rattle.wire.specs.Reply.{gives, refuses}
 use Rattle.table.specs.declared.Table.{Table}
 use Rattle.table.specs.Table.{WellFormed}
-use Rattle.table.specs.Encode as tables
+use Rattle.table.specs.Encode.{tableBytes}
 use Rattle.table.specs.Answer as table-answer
 use Rattle.table.specs.Check.{tableAnswer, tableIn}
 use Rattle.table.specs.Under.{underTable}
@@ -22,7 +22,7 @@ use Rattle.records.specs.Form.{longestStimulus, journal, stimulus}
 use Rattle.records.specs.Encode.{bytesFrom}
 use Rattle.records.proofs.Places.{refusal-numbered}
 use Rattle.machine.specs.Machine.{start}
-use Rattle.machine.specs.Walk.{Run, ran, tooLong, refused, runOver}
+use Rattle.machine.specs.Walk.{RunOverBytes, ran, tooLong, refused, runOver}
 use Rattle.journal.specs.declared.Numbers.{Numbers}
 use Rattle.journal.specs.declared.Answer.the-variants as answer
 use Rattle.journal.specs.Answer.{listed, replyOf}
@@ -31,7 +31,7 @@ use Rattle.runtime.specs.declared.Answer.the-variants as runtime
 use Rattle.runtime.specs.Answer as run-answer
 use Rattle.runtime.specs.declared.Answer.{Answer}
 use Rattle.runtime.specs.Run as run
-use Rattle.runtime.specs.Run.{madeOf, runOf}
+use Rattle.runtime.specs.Run.{madeOfRun, runOf}
 use Rattle.runs.proofs.Automaton.{machine-is-automaton}
 use Rattle.krossvil.specs.Host.{told, codeOf, answerAfter, bufferAfter, journalTold, runTold, runJournal}
 use Rattle.krossvil.proofs.Outcomes.{told-fits}
@@ -76,8 +76,8 @@ module _ (room answer : ℕ) where
   abbrev codeFor : Answer → ℕ
   codeFor a = codeOf (told (run-answer.replyOf a) answer)
 
-  under-written : (r : Run) → codeFor (run.answerOf (madeOf r) room) ≡ 0 → (size : ℕ) × (run.answerOf (madeOf r) room ≡ runtime.Written size)
-  unfolding madeOf answerIn
+  under-written : (r : RunOverBytes) → codeFor (run.answerOf (madeOfRun r) room) ≡ 0 → (size : ℕ) × (run.answerOf (madeOfRun r) room ≡ runtime.Written size)
+  unfolding madeOfRun answerIn
   under-written (ran input taken last) e = go (room <? length bytes) e
     where
       bytes : List ℕ
@@ -111,7 +111,7 @@ accepted-for {T = T} r =
       end-is = taken .1;
     }
 
-run-for : {table s j : List ℕ} (t : Table) → WellFormed t → table ≡ tables.encode t → runOf table s ≡ run.journal j →
+run-for : {table s j : List ℕ} (t : Table) → WellFormed t → table ≡ tableBytes t → runOf table s ≡ run.journalMade j →
     (a : AcceptedFor t s j) → length s ≤ longestStimulus → RunFor table s j (a .end)
 run-for {table} {s} {j} t ok is made a short =
     let records = a .records ++ End (a .end) ∷ [] in
@@ -134,15 +134,15 @@ module _ (table s buffer before : List ℕ) (table-bytes : Bytes table) (bytes :
   told-is : (size : ℕ) → run.answerOf (runOf table s) (length buffer) ≡ runtime.Written size → runTold table s buffer (length before) ≡ gives (size ∷ [])
   told-is size is = ap (λ a. told (run-answer.replyOf a) (length before)) is ∙ told-fits (gives (size ∷ [])) (length before) enough
 
-  made-is : (j : List ℕ) (T : ℕ) → RunFor table s j T → runOf table s ≡ run.journal j
+  made-is : (j : List ℕ) (T : ℕ) → RunFor table s j T → runOf table s ≡ run.journalMade j
   made-is j T r =
       sym (runs-under table s (r .run .t) (r .run .holds .well-formed) (r .run .holds .table-is)) ∙ writes (r .run .t) s j (r .short) (accepted-for r)
 
-  stands : (j : List ℕ) → runOf table s ≡ run.journal j → length j ≤ length buffer → bufferIn (runOf table s) buffer ≡ j ++ drop (length j) buffer
+  stands : (j : List ℕ) → runOf table s ≡ run.journalMade j → length j ≤ length buffer → bufferIn (runOf table s) buffer ≡ j ++ drop (length j) buffer
   unfolding bufferIn
   stands j made fits = rw (made, le-ltb (length buffer) (length j) fits) refl
 
-  performed : (size : ℕ) → run.answerOf (runOf table s) (length buffer) ≡ runtime.Written size → (t : Table) → WellFormed t → table ≡ tables.encode t →
+  performed : (size : ℕ) → run.answerOf (runOf table s) (length buffer) ≡ runtime.Written size → (t : Table) → WellFormed t → table ≡ tableBytes t →
       Writable t s (length buffer) size →
       JournalTold table s buffer before (runJournal table s buffer (length before)) (answerAfter (runTold table s buffer (length before)) before)
   performed size is t ok table-is w =

@@ -20,10 +20,10 @@ use Rattle.table.proofs.WellFormed.{well-formed}
 use Rattle.records.specs.declared.Record.{Record}
 use Rattle.records.specs.Form.{journal}
 use Rattle.records.proofs.Places.{refusal-numbered}
-use Rattle.machine.specs.Walk.{Run, ran, tooLong, refused, runOver}
+use Rattle.machine.specs.Walk.{RunOverBytes, ran, tooLong, refused, runOver}
 use Rattle.journal.specs.declared.Answer.the-variants as checked
 use Rattle.journal.specs.Answer as check
-use Rattle.journal.specs.Check.{answerOf, answerIn, checkIn}
+use Rattle.journal.specs.Check.{answerOfRun, checkUnder, checkIn}
 use Rattle.tally.specs.declared.Tally.{Tally}
 use Rattle.tally.specs.Sums.{summed}
 use Rattle.tally.specs.Tally.{tallyOf, tallyIn}
@@ -33,7 +33,7 @@ use Rattle.report.specs.declared.Answer.the-variants.{Taken, TableRefused, Full
 use Rattle.report.specs.declared.Added as added
 use Rattle.report.specs.declared.Report.{Report}
 use Rattle.report.specs.Answer.{replyOf}
-use Rattle.report.specs.Report.{mostJournals, beginOf, tableOf, withTally, unchanged, addedBy, addUnder, addOf}
+use Rattle.report.specs.Report.{mostJournals, beginOf, tableKept, withTally, asItWas, addedBy, addUnder, addOf}
 use Rattle.report.specs.Rows.{placesOf, rowOf}
 use Rattle.krossvil.specs.Host.{bufferAfter, roomFor, afterCheck, reportTold}
 use Rattle.laws.specs.Reports.{addedAll, NoneFull}
@@ -120,7 +120,7 @@ module _ (table : List ℕ) (passes : tableAnswer table ≡ Passes) where
 
   -- The report keeps the table, its arrays, and at most so many journals.
   record Kept (x : Report) : Type 0 where
-    own : tableOf x ≡ table
+    own : tableKept x ≡ table
     sized : Sized (arrays x)
     few : x .journals ≤ mostJournals
 
@@ -168,19 +168,19 @@ module _ (table : List ℕ) (passes : tableAnswer table ≡ Passes) where
     kept-more y more = record { own = kept .own; sized = with-sized x y (kept .sized); few = omega arith }
 
     -- What is told, the numbers after it, and what the report keeps.
-    abbrev Added : Reply → Run → added.Added → Type 0
+    abbrev Added : Reply → RunOverBytes → added.Added → Type 0
     Added told r a =
         (told ≡ replyOf (a .answer)) × (bufferAfter told (summed row (rowOf t (tallyIn t r))) row ≡ numbersKept t (a .report) ++ behind) × Kept (a .report)
 
-    by-run : (r : Run) → Added (afterCheck (check.replyOf (answerOf t r)) (roomFor (placesOf t) row)) r (addedBy t x r)
-    unfolding answerOf addedBy bufferAfter tallyIn
+    by-run : (r : RunOverBytes) → Added (afterCheck (check.replyOf (answerOfRun t r)) (roomFor (placesOf t) row)) r (addedBy t x r)
+    unfolding answerOfRun addedBy bufferAfter tallyIn
     by-run (ran input taken last) = rw room-is (go (mostJournals ≤? x .journals) refl)
       where
         y : Tally
         y = tallyOf t input taken (last .time)
 
         go : (b : Bool) → (mostJournals ≤? x .journals) ≡ b →
-            Added (if b then refuses 35 0 else gives []) (ran input taken last) (if b then unchanged x Full else record { answer = Taken; report = withTally x y })
+            Added (if b then refuses 35 0 else gives []) (ran input taken last) (if b then asItWas x Full else record { answer = Taken; report = withTally x y })
         go true is = (refl, refl, kept)
         go false is =
             let more = leb-false mostJournals (x .journals) is in
@@ -190,11 +190,11 @@ module _ (table : List ℕ) (passes : tableAnswer table ≡ Passes) where
 
     add-is : (s : List ℕ) → addOf x s ≡ addedBy t x (runOver journal t s)
     unfolding addOf addUnder
-    add-is s = rw (kept .own) (under-passes (λ a. unchanged x (TableRefused a)) (λ u. addedBy u x (runOver journal u s)) table passes)
+    add-is s = rw (kept .own) (under-passes (λ a. asItWas x (TableRefused a)) (λ u. addedBy u x (runOver journal u s)) table passes)
 
     one-added : (s : List ℕ) → Added (reportTold table s row) (runOver journal t s) (addOf x s)
     unfolding reportTold checkIn
-    one-added s = rw (add-is s, under-passes checked.TableRefused (λ u. answerIn journal u s) table passes) (by-run (runOver journal t s))
+    one-added s = rw (add-is s, under-passes checked.TableRefused (λ u. checkUnder journal u s) table passes) (by-run (runOver journal t s))
 
   -- ---- All of them
 

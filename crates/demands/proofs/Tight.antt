@@ -16,9 +16,8 @@ use Rattle.table.specs.declared.Table.{Table}
 use Rattle.table.specs.Table.{WellFormed}
 use Rattle.table.specs.Answer.{_or-else_, _and-then_}
 use Rattle.table.specs.Entries.{entriesFrom, values}
-use Rattle.table.specs.Encode as tables
-use Rattle.table.specs.Encode.{words, timing}
-use Rattle.table.specs.Check.{named, fieldAnswer, rowAnswer, below, badWord, setAnswer, countsAnswer, boundAnswer, holdsAnswer, tagged, timingAnswer, entriesAnswer}
+use Rattle.table.specs.Encode.{words, timing, tableBytes}
+use Rattle.table.specs.Check.{expectedField, fieldAnswer, rowAnswer, below, badWord, setAnswer, countsAnswer, boundAnswer, holdsAnswer, tagged, timingAnswer, entriesAnswer}
 use Rattle.table.specs.Check.{answerBy, timersIn, tableWith}
 use Rattle.table.specs.Under.{underTable}
 use Rattle.table.proofs.WellFormed.{well-formed}
@@ -29,12 +28,11 @@ use Rattle.records.specs.Reading.{lengthFits, knownIn, knownWith, openingIn, op
 use Rattle.records.proofs.Written.{journal-recovers}
 use Rattle.records.proofs.Says.{keeps-all}
 use Rattle.machine.specs.declared.Machine.{Machine}
-use Rattle.machine.specs.Verdict as watch
-use Rattle.machine.specs.Verdict.{ruleBy, strongest}
+use Rattle.machine.specs.Verdict.{ruleBy, strongest, largestOver}
 use Rattle.machine.specs.Machine.{start, rule, verdict, left, stateAfter, regionsAfter, lastChange, gate, step}
-use Rattle.machine.specs.Walk.{walk, recordsRun, opened, ran, runOver}
+use Rattle.machine.specs.Walk.{walk, recordsRun, runOpened, ran, runOver}
 use Rattle.machine.proofs.RunsOver.{over-runs}
-use Rattle.journal.specs.Check.{numbersOf, answerOf}
+use Rattle.journal.specs.Check.{numbersOf, answerOfRun}
 use Rattle.reaction.specs.Reaction.{nextSet, weightOf, reactionTime, firstFrom, firstLeaving, reactionOf, forHolds, reactOf}
 use Rattle.runs.specs.Slots.{slot, inputAt, stateAt}
 use Rattle.tight.specs.declared.Answer.the-variants.{Reacts}
@@ -65,9 +63,9 @@ tight-not-too-late table P A time target tight e journal t input records T j =
 -- ---- A journal that the machine goes through
 
 -- It is accepted, and holds the records taken.
-journal-accepted : (table journal : List ℕ) (t : Table) (input : ℕ) (taken : List Record) (last : Machine) → WellFormed t → table ≡ tables.encode t →
+journal-accepted : (table journal : List ℕ) (t : Table) (input : ℕ) (taken : List Record) (last : Machine) → WellFormed t → table ≡ tableBytes t →
     Bytes journal → runOver form.journal t journal ≡ ran input taken last → AcceptedJournal table journal t input taken (last .time)
-unfolding answerOf
+unfolding answerOfRun
 journal-accepted table journal t input taken last ok table-is bytes through =
     let h = over-runs form.journal t journal input taken last journal-recovers bytes through in
     let all : taken ≡ h .said ++ End (h .end) ∷ [] = sym (keeps-all form.journal refl taken) ∙ h .says in
@@ -129,7 +127,7 @@ least-of table P A time target tight journal input records answer shown = record
 }
 
 classroom-well-formed : WellFormed classroomTable
-unfolding field fieldAt _or-else_ _and-then_ entriesFrom values tables.encode words timing named fieldAnswer rowAnswer below badWord setAnswer tagged
+unfolding field fieldAt _or-else_ _and-then_ entriesFrom values tableBytes words timing expectedField fieldAnswer rowAnswer below badWord setAnswer tagged
     countsAnswer boundAnswer holdsAnswer timingAnswer entriesAnswer answerBy timersIn tableWith
 classroom-well-formed = well-formed classroom refl
 
@@ -149,10 +147,10 @@ shows journal P A target c s input records last bytes through later none out = r
 }
 
 pub least-times : LeastTimes
-unfolding field fieldAt some setOf largest _or-else_ _and-then_ entriesFrom values tables.encode words named fieldAnswer rowAnswer below badWord setAnswer tagged timing
+unfolding field fieldAt some setOf largest _or-else_ _and-then_ entriesFrom values tableBytes words expectedField fieldAnswer rowAnswer below badWord setAnswer tagged timing
     countsAnswer boundAnswer holdsAnswer timingAnswer entriesAnswer answerBy timersIn tableWith underTable lengthFits knownIn knownWith openingIn openingWith recordOf
-    ranged recordIn recordAt itemsFrom itemsOf ruleBy strongest watch.largest rule verdict left regionsAfter stateAfter lastChange gate step walk
-    recordsRun opened runOver nextSet weightOf reactionTime firstFrom firstLeaving reactionOf forHolds reactOf needOf tightTime reactTightOf slot all-bytes
+    ranged recordIn recordAt itemsFrom itemsOf ruleBy strongest largestOver rule verdict left regionsAfter stateAfter lastChange gate step walk
+    recordsRun runOpened runOver nextSet weightOf reactionTime firstFrom firstLeaving reactionOf forHolds reactOf needOf tightTime reactTightOf slot all-bytes
 least-times = (
   least-of classroom 3 1 _ _ _ journalOfTwelve 1 recordsOfTwelve refl (shows journalOfTwelve 3 1 _ _ 1 1 recordsOfTwelve _ refl refl (lit< tt) refl refl),
   least-of classroom 3 2 _ _ _ journalOfFive 0 recordsOfFive refl (shows journalOfFive 3 2 _ _ 1 0 recordsOfFive _ refl refl (lit< tt) refl refl),

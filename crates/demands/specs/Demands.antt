@@ -8,7 +8,7 @@ use lib.ListN.{length}
 use Rattle.wire.specs.Encode.{Bytes}
 use Rattle.table.specs.declared.Table.{Table}
 use Rattle.table.specs.Table.{WellFormed}
-use Rattle.table.specs.Encode as tables
+use Rattle.table.specs.Encode.{tableBytes}
 use Rattle.records.specs.declared.Record.{Record}
 use Rattle.records.specs.declared.Record.the-variants.{End}
 use Rattle.records.specs.Form.{longestJournal}
@@ -41,7 +41,7 @@ pub record Accepts (table journal : List ℕ) (T : ℕ) : Type 0 where
 -- What the bytes hold: a well-formed table; an opening input, then records in range, of which the last and no other is the end, at T.
 pub record Holds (table journal : List ℕ) (t : Table) (input : ℕ) (records : List Record) (T : ℕ) : Type 0 where
   pub well-formed : WellFormed t
-  pub table-is : table ≡ tables.encode t
+  pub table-is : table ≡ tableBytes t
   pub before-end : List Record
   pub journal-is : JournalOf t journal input before-end T
   pub records-are : records ≡ before-end ++ End T ∷ []

@@ -5,13 +5,12 @@ use Prim.Native.Nat.{ℕ, _≤_}
 use lib.ListN.{length, drop}
 use Rattle.table.specs.declared.Table.{Table}
 use Rattle.table.specs.Table.{WellFormed}
-use Rattle.table.specs.Encode as tables
+use Rattle.table.specs.Encode.{words, tableBytes}
 use Rattle.records.specs.Form as form
 use Rattle.records.specs.Form.{longestStimulus}
 use Rattle.records.specs.Encode.{encode}
 use Rattle.journal.specs.declared.Numbers.{Numbers}
 use Rattle.journal.specs.Answer.{listed}
-use Rattle.krossvil.specs.Host.{numberBytes}
 use Rattle.laws.specs.Journals.{AcceptedRun}
 use Rattle.laws.specs.Runtimes.{eventFor}
 use Rattle.demands.specs.Demands.{Accepts, HoldsRun}
@@ -24,9 +23,9 @@ pub record RunTold (table journal before after : List ℕ) : Type 0 where
   pub run : HoldsRun table journal (n .end)
   pub under : Table
   pub well-formed : WellFormed under
-  pub table-is : table ≡ tables.encode under
+  pub table-is : table ≡ tableBytes under
   pub numbers : AcceptedRun form.journal under journal n
-  pub answer : after ≡ numberBytes (listed n) ++ drop 28 before
+  pub answer : after ≡ words (listed n) ++ drop 28 before
 
 -- 0 is given back for every such run, and for nothing else.
 pub record JudgesRuns (table journal before : List ℕ) (code : ℕ) (after : List ℕ) : Type 0 where
@@ -51,7 +50,7 @@ pub record JournalTold (table stimulus buffer before later after : List ℕ) : T
   pub accepted : Accepts table journal T
   pub fits : length journal ≤ length buffer
   pub written : later ≡ journal ++ drop (length journal) buffer
-  pub answer : after ≡ numberBytes (length journal ∷ []) ++ drop 4 before
+  pub answer : after ≡ words (length journal ∷ []) ++ drop 4 before
 
 -- 0 is given back for every stimulus for which there is one that fits, and for nothing else.
 pub record PerformsRuns (table stimulus buffer before : List ℕ) (code : ℕ) (later after : List ℕ) : Type 0 where

@@ -20,12 +20,12 @@ use Rattle.records.proofs.Places.{refusal-numbered}
 use Rattle.records.specs.declared.Refusal.the-variants.{RunsOut, UnknownField, Misplaced, OutOfRange, TimeFalls, PastBound, WrongPhase, Unsettled, Differs}
 use Rattle.records.specs.Refusal.{numberOf}
 use Rattle.records.specs.Form.{Form}
-use Rattle.machine.specs.Walk.{Run, ran, tooLong, refused, runOver}
+use Rattle.machine.specs.Walk.{RunOverBytes, ran, tooLong, refused, runOver}
 use Rattle.journal.specs.declared.Numbers.{Numbers}
 use Rattle.journal.specs.declared.Answer.{Answer}
 use Rattle.journal.specs.declared.Answer.the-variants as answer
 use Rattle.journal.specs.Answer.{replyOf}
-use Rattle.journal.specs.Check.{checkIn, answerOf}
+use Rattle.journal.specs.Check.{checkIn, answerOfRun}
 use Rattle.journal.specs.Accepted.{AcceptedIn}
 use Rattle.journal.proofs.Accepted.{accepted}
 use Rattle.krossvil.specs.Host.{told, codeOf, bufferAfter}
@@ -47,8 +47,8 @@ not-zero reply h room e = go (room <? 4 * length (valuesIn reply)) e
     go false f = eqb-false (numberIn reply) 0 h (omega arith)
 
 module _ (F : Form) (table s : List ℕ) (room : ℕ) where
-  under-zero : (t : Table) (r : Run) → codeOf (told (replyOf (answerOf t r)) room) ≡ 0 → IsAccepted (answerOf t r)
-  unfolding answerOf
+  under-zero : (t : Table) (r : RunOverBytes) → codeOf (told (replyOf (answerOfRun t r)) room) ≡ 0 → IsAccepted (answerOfRun t r)
+  unfolding answerOfRun
   under-zero t (ran input taken last) e = record { n = _; is = refl }
   under-zero t tooLong e = absurd (not-zero (refuses 19 0) refl room e)
   under-zero t (refused refusal place) e = absurd (not-zero (replyOf (answer.Refused refusal place)) (refusal-numbered refusal) room e)

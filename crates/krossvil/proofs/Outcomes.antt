@@ -10,6 +10,8 @@ use lib.ListN.{length, getD, take, drop, length-append, length-drop}
 use lib.Seq.{drop-append-add, length-take-le, take-all, take-at, take-suc, drop-drop}
 use Rattle.wire.specs.Encode.{bytes32, placedIn}
 use Rattle.wire.specs.Reply.{Reply, gives, refuses, numberIn, placeIn, valuesIn}
+use Rattle.table.specs.Encode.{words}
+use Rattle.table.proofs.Words.{length-words, words-append}
 use Rattle.journal.specs.declared.Answer as journal′
 use Rattle.journal.specs.declared.Answer.the-variants as checked
 use Rattle.journal.specs.Answer as journal
@@ -22,7 +24,7 @@ use Rattle.reaction.specs.declared.Answer as reaction′
 use Rattle.reaction.specs.declared.Answer.the-variants as reacted
 use Rattle.reaction.specs.Answer as reaction
 use Rattle.reaction.proofs.Answer as ReactionT
-use Rattle.krossvil.specs.Host.{told, numbered, codeOf, numberBytes, answerAfter}
+use Rattle.krossvil.specs.Host.{told, numbered, codeOf, answerAfter}
 use Rattle.krossvil.specs.Small.{Fits}
 use Rattle.krossvil.proofs.TablePlaces.{table-none}
 
@@ -34,11 +36,11 @@ Owed reply before code after = (code ≡ codeOf (told reply (length before))) ×
 
 module _ (numbers before : List ℕ) (code : ℕ) where
   pub too-short : length before < 4 * length numbers → code ≡ numbered 30 0 → Owed (gives numbers) before code before
-  unfolding told numberBytes
+  unfolding told words
   too-short h e = rw (e, lt-ltb (length before) (4 * length numbers) h) (refl, refl)
 
   pub long-enough : 4 * length numbers ≤ length before → code ≡ 0 → (after : List ℕ) →
-      after ≡ numberBytes numbers ++ drop (4 * length numbers) before → Owed (gives numbers) before code after
+      after ≡ words numbers ++ drop (4 * length numbers) before → Owed (gives numbers) before code after
   unfolding told
   long-enough h e after is = rw (e, is, le-ltb (length before) (4 * length numbers) h) (refl, refl)
 
@@ -52,7 +54,7 @@ owed-same replyOf a right reply is e before after code owed = rw (← is, ← e)
 -- No answer is too short for a reply that has no numbers.
 pub owed-none : (reply : Reply) → valuesIn reply ≡ [] → (n p : ℕ) → n ≡ numberIn reply → p ≡ placeIn reply → (before : List ℕ) (code : ℕ) → code ≡ numbered n p →
     Owed reply before code before
-unfolding told numberBytes
+unfolding told words
 owed-none reply none n p en ep before code e =
     let enough = le-ltb (length before) 0 (omega arith) in
     rw (none, enough, none) (rw (e, en, ep) refl, refl)
@@ -94,35 +96,25 @@ told-fits reply room h = rw (le-ltb room (4 * length (valuesIn reply)) h) refl
 
 -- ---- Numbers put one after another
 
-bytes-length : (numbers : List ℕ) → length (numberBytes numbers) ≡ 4 * length numbers
-unfolding numberBytes
-bytes-length [] = refl
-bytes-length (n ∷ rest) = let e = bytes-length rest in omega arith
-
-bytes-append : (a b : List ℕ) → numberBytes (a ++ b) ≡ numberBytes a ++ numberBytes b
-unfolding numberBytes
-bytes-append [] b = refl
-bytes-append (n ∷ a) b = ap (λ x. bytes32 n ++ x) (bytes-append a b)
-
-one-more : (numbers : List ℕ) (k : ℕ) → k < length numbers → numberBytes (take (k + 1) numbers) ≡ numberBytes (take k numbers) ++ bytes32 (getD numbers k 0)
-unfolding numberBytes
+one-more : (numbers : List ℕ) (k : ℕ) → k < length numbers → words (take (k + 1) numbers) ≡ words (take k numbers) ++ bytes32 (getD numbers k 0)
+unfolding words
 one-more numbers k h =
     let e : k + 1 ≡ suc k = omega arith in
-    rw e (ap numberBytes (take-suc numbers k 0 h) ∙ bytes-append (take k numbers) (getD numbers k 0 ∷ []))
+    rw e (ap words (take-suc numbers k 0 h) ∙ words-append (take k numbers) (getD numbers k 0 ∷ []))
 
 -- The first `k` numbers stand in the buffer, and behind them it is as it was.
 pub record Put (numbers before now : List ℕ) (k : ℕ) : Type 0 where
   pub some : k ≤ length numbers
   pub room : 4 * length numbers ≤ length before
-  pub is : now ≡ numberBytes (take k numbers) ++ drop (4 * k) before
+  pub is : now ≡ words (take k numbers) ++ drop (4 * k) before
 
 pub put-none : (numbers before : List ℕ) → 4 * length numbers ≤ length before → Put numbers before before 0
-unfolding numberBytes
+unfolding words
 put-none numbers before h = record { some = omega arith; room = h; is = refl }
 
 module _ (numbers before now : List ℕ) (k : ℕ) (put : Put numbers before now k) where
-  front-length : length (numberBytes (take k numbers)) ≡ 4 * k
-  front-length = bytes-length (take k numbers) ∙ ap (λ n. 4 * n) (length-take-le k numbers (put .some))
+  front-length : length (words (take k numbers)) ≡ 4 * k
+  front-length = length-words (take k numbers) ∙ ap (λ n. 4 * n) (length-take-le k numbers (put .some))
 
   pub put-length : length now ≡ length before
   put-length = let e = front-length in rw (put .is, length-append, length-drop) (omega (arith, put .room, put .some))
@@ -130,18 +122,18 @@ module _ (numbers before now : List ℕ) (k : ℕ) (put : Put numbers before now
   pub put-next : k < length numbers → (later : List ℕ) → later ≡ placedIn now (4 * k) (bytes32 (getD numbers k 0)) → Put numbers before later (k + 1)
   put-next more later p = record { some = omega arith; room = put .room; is = p ∙ whole }
     where
-      front : take (4 * k) now ≡ numberBytes (take k numbers)
-      front = ap (take (4 * k)) (put .is) ∙ take-at (numberBytes (take k numbers)) (drop (4 * k) before) (4 * k) front-length
+      front : take (4 * k) now ≡ words (take k numbers)
+      front = ap (take (4 * k)) (put .is) ∙ take-at (words (take k numbers)) (drop (4 * k) before) (4 * k) front-length
 
       rest : drop (4 * k + 4) now ≡ drop (4 * (k + 1)) before
       rest =
           let e : 4 * (k + 1) ≡ 4 * k + 4 = omega arith in
-          rw (e, put .is, ← front-length) (drop-append-add (numberBytes (take k numbers)) (drop (length (numberBytes (take k numbers))) before) 4 ∙ drop-drop 4 (length (numberBytes (take k numbers))) before)
+          rw (e, put .is, ← front-length) (drop-append-add (words (take k numbers)) (drop (length (words (take k numbers))) before) 4 ∙ drop-drop 4 (length (words (take k numbers))) before)
 
-      whole : placedIn now (4 * k) (bytes32 (getD numbers k 0)) ≡ numberBytes (take (k + 1) numbers) ++ drop (4 * (k + 1)) before
+      whole : placedIn now (4 * k) (bytes32 (getD numbers k 0)) ≡ words (take (k + 1) numbers) ++ drop (4 * (k + 1)) before
       whole = rw (front, rest, one-more numbers k more) refl
 
-  pub put-all : length numbers ≤ k → now ≡ numberBytes numbers ++ drop (4 * length numbers) before
+  pub put-all : length numbers ≤ k → now ≡ words numbers ++ drop (4 * length numbers) before
   put-all h =
       let e : k ≡ length numbers = omega (arith, put .some) in
       put .is ∙ rw (take-all k numbers h, e) refl

@@ -29,15 +29,15 @@ use Rattle.machine.specs.declared.Machine.{Machine}
 use Rattle.machine.specs.declared.Step.{Step}
 use Rattle.machine.specs.declared.Step.the-variants as step
 use Rattle.machine.specs.Machine.{start, step}
-use Rattle.machine.specs.Walk.{inTable, completed, Walk, ended, stopped, took, onwards, walk, Run, ran, tooLong, refused, ranFrom, recordsRun, opened, runOver}
+use Rattle.machine.specs.Walk.{inTable, completed, Walk, ended, stopped, took, onwards, walk, RunOverBytes, ran, tooLong, refused, ranFrom, recordsRun, runOpened, runOver}
 use Rattle.journal.specs.Answer as journal′
-use Rattle.journal.specs.Check.{answerOf, answerIn, checkIn, checkOf, checkShortOf}
+use Rattle.journal.specs.Check.{answerOfRun, checkUnder, checkIn, checkOf, checkShortOf}
 use Rattle.journal.specs.declared.Answer.the-variants as checked
 use Rattle.runtime.specs.declared.Answer as runtime′
 use Rattle.runtime.specs.declared.Answer.the-variants as made
 use Rattle.runtime.specs.Answer as runtime
 use Rattle.runtime.specs.Run as run
-use Rattle.runtime.specs.Run.{madeOf, madeUnder, runOf}
+use Rattle.runtime.specs.Run.{madeOfRun, madeUnder, runOf}
 use Rattle.runtime.proofs.Lengths.{Short, under-short}
 use Rattle.reaction.specs.declared.Answer.the-variants.{Reacts, TableRefused, HasTimers, UnknownState, UnknownInput, LeavesStates}
 use Rattle.reaction.specs.Answer as reaction
@@ -87,43 +87,43 @@ walk-by limit F t m (item place r rest) (low, more) = taken (step t m (completed
 walk-by limit F t m done w = tt
 walk-by limit F t m (broken refusal place) w = w .1
 
-abbrev pub RunBy : Run → Type 0
+abbrev pub RunBy : RunOverBytes → Type 0
 RunBy (ran input taken last) = Unit
 RunBy tooLong = Unit
 RunBy (refused refusal place) = place ≤ 1000000
 
 pub run-by : (F : Form) → F .most ≤ longestJournal → (t : Table) (s : List ℕ) → RunBy (runOver F t s)
-unfolding runOver opened recordsRun itemsOf
+unfolding runOver runOpened recordsRun itemsOf
 run-by F few t s = go (F .most <? length s) refl
   where
     walked : (input : ℕ) (w : Walk) → StopsBy 1000000 w → RunBy (ranFrom input w)
     walked input (ended taken last) h = tt
     walked input (stopped refusal place) h = h
 
-    begun : length s ≤ F .most → (o : Opening) → RunBy (opened F t s o)
+    begun : length s ≤ F .most → (o : Opening) → RunBy (runOpened F t s o)
     begun short (opening.Refused refusal) = omega arith
     begun short (opening.Input input) =
         let items = itemsOf F (inTable F t) s in
         let within = items-within F (inTable F t) s 1000000 (suc (length s)) 4 0 (omega arith) in
         walked input (walk F t (start (t .initial) input) items) (walk-by 1000000 F t (start (t .initial) input) items within)
 
-    go : (b : Bool) → (F .most <? length s) ≡ b → RunBy (if b then tooLong else opened F t s (openingOf F (t .inputs) s))
+    go : (b : Bool) → (F .most <? length s) ≡ b → RunBy (if b then tooLong else runOpened F t s (openingOf F (t .inputs) s))
     go true e = tt
     go false e = begun (ltb-false (F .most) (length s) e) (openingOf F (t .inputs) s)
 
 -- ---- The entries
 
 pub checked-fits : (F : Form) → F .most ≤ longestJournal → (table s : List ℕ) → Fits (journal′.replyOf (checkIn F table s))
-unfolding checkIn answerOf
+unfolding checkIn answerOfRun
 checked-fits F few table s =
-    under-either checked.TableRefused (λ t. answerIn F t s) table (λ a. Fits (journal′.replyOf a)) (λ e. under (tableIn table)) (table-fits false table)
+    under-either checked.TableRefused (λ t. checkUnder F t s) table (λ a. Fits (journal′.replyOf a)) (λ e. under (tableIn table)) (table-fits false table)
   where
-    answered : (t : Table) (r : Run) → RunBy r → Fits (journal′.replyOf (answerOf t r))
+    answered : (t : Table) (r : RunOverBytes) → RunBy r → Fits (journal′.replyOf (answerOfRun t r))
     answered t (ran input taken last) h = record { number = omega arith; place = omega arith }
     answered t tooLong h = record { number = omega arith; place = omega arith }
     answered t (refused refusal place) h = record { number = refusal-small refusal; place = omega arith }
 
-    under : (t : Table) → Fits (journal′.replyOf (answerIn F t s))
+    under : (t : Table) → Fits (journal′.replyOf (checkUnder F t s))
     under t = answered t (runOver F t s) (run-by F few t s)
 
 pub journal-fits : (table s : List ℕ) → Fits (journal′.replyOf (checkOf table s))
@@ -140,10 +140,10 @@ pub small : (reply : Reply) → numberIn reply ≤ 35 → placeIn reply ≤ 1000
 small reply n p none = (record { number = n; place = omega arith }, rw none (omega arith))
 
 made-fits : (t : Table) (s : List ℕ) → RunFits (answerMade (madeUnder t s))
-unfolding madeOf
+unfolding madeOfRun
 made-fits t s = go (runOver stimulus t s) (run-by stimulus (omega arith) t s) (under-short t s)
   where
-    go : (r : Run) → RunBy r → Short (madeOf r) → RunFits (answerMade (madeOf r))
+    go : (r : RunOverBytes) → RunBy r → Short (madeOfRun r) → RunFits (answerMade (madeOfRun r))
     go (ran input taken last) h short = (record { number = omega arith; place = omega arith }, omega arith)
     go tooLong h short = small (runtime.replyOf made.TooLong) (omega arith) (omega arith) refl
     go (refused refusal place) h short = small (runtime.replyOf (made.Refused refusal place)) (refusal-small refusal) h refl

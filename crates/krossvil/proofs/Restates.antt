@@ -21,7 +21,7 @@ use Rattle.records.specs.declared.Refusal.{Refusal}
 use Rattle.records.specs.Form.{Form, journal, short, longestJournal}
 use Rattle.records.proofs.Written.{journal-recovers}
 use Rattle.machine.specs.Walk as walk
-use Rattle.machine.specs.Walk.{Run, ran, tooLong, runOver}
+use Rattle.machine.specs.Walk.{RunOverBytes, ran, tooLong, runOver}
 use Rattle.journal.specs.declared.Answer as journal′
 use Rattle.journal.specs.declared.Answer.the-variants as check
 use Rattle.journal.specs.Answer as journal-answer
@@ -61,7 +61,7 @@ shorten-gives table s =
     under-either (λ a. made.refused (TableRefused a)) (λ t. restated short (runOver journal t s)) table (Gives replyOf 1)
     (λ passes. go (runOver journal (tableIn table) s)) tt
   where
-    go : (r : Run) → Gives replyOf 1 (restated short r)
+    go : (r : RunOverBytes) → Gives replyOf 1 (restated short r)
     go (ran input taken last) = (_ ∷ [], refl, refl)
     go tooLong = tt
     go (walk.refused refusal place) = tt
@@ -77,7 +77,7 @@ module _ (table s : List ℕ) (bytes : Bytes s) where
       (λ passes. go passes (runOver journal (tableIn table) s) refl (run-by journal (omega arith) (tableIn table) s))
       (table-fits false table, rw (table-none (tableAnswer table)) (omega arith))
     where
-      go : tableAnswer table ≡ Passes → (r : Run) → runOver journal (tableIn table) s ≡ r → RunBy r → TellsLength replyOf (restated short r)
+      go : tableAnswer table ≡ Passes → (r : RunOverBytes) → runOver journal (tableIn table) s ≡ r → RunBy r → TellsLength replyOf (restated short r)
       go passes (ran input taken last) is by =
           let ok : AcceptedIn journal table s = record { passes = passes; input = input; taken = taken; last = last; through = is } in
           let l = lengths journal short refl refl journal-recovers table s ok bytes in
@@ -103,7 +103,7 @@ module _ (table s : List ℕ) where
       sized long true h = small (replyOf OldFormTooLong) (omega arith) (omega arith) refl
       sized long false h = (refl, ltb-false longestJournal (length long) h)
 
-      go : (r : Run) → RunBy r → TellsLength replyOf (withinLimit (restated journal r))
+      go : (r : RunOverBytes) → RunBy r → TellsLength replyOf (withinLimit (restated journal r))
       go (ran input taken last) by = sized (writtenIn journal input taken) _ refl
       go tooLong by = small (replyOf TooLong) (omega arith) (omega arith) refl
       go (walk.refused refusal place) by = small (replyOf (Refused refusal place)) (refusal-small refusal) by refl
@@ -119,7 +119,7 @@ module _ (table s : List ℕ) where
 
 -- ---- The check goes first, with room for its seven numbers
 
-module _ (F : Form) (of : Run → Made Answer) (table s : List ℕ) where
+module _ (F : Form) (of : RunOverBytes → Made Answer) (table s : List ℕ) where
   abbrev checked : Reply
   checked = told (journal-answer.replyOf (checkIn F table s)) 28
 

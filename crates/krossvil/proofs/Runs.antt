@@ -7,18 +7,18 @@ use Rattle.wire.specs.Made.{bufferIn}
 use Rattle.table.specs.Check.{tableIn}
 use Rattle.table.proofs.Under.{under-either}
 use Rattle.records.specs.Form.{stimulus}
-use Rattle.machine.specs.Walk.{Run, ran, tooLong, refused, runOver}
+use Rattle.machine.specs.Walk.{RunOverBytes, ran, tooLong, refused, runOver}
 use Rattle.runtime.specs.declared.Answer.the-variants.{TableRefused, BufferTooShort}
 use Rattle.runtime.specs.Answer.{replyOf}
-use Rattle.runtime.specs.Run.{madeOf, madeUnder, runOf, answerOf}
+use Rattle.runtime.specs.Run.{madeOfRun, madeUnder, runOf, answerOf}
 use Rattle.krossvil.proofs.Writers.{Writes, Gives, made-writes}
 
 pub run-gives : (table s : List ℕ) → Gives replyOf 1 (runOf table s)
-unfolding runOf madeOf
+unfolding runOf madeOfRun
 run-gives table s =
     under-either (λ a. made.refused (TableRefused a)) (λ t. madeUnder t s) table (Gives replyOf 1) (λ passed. go (runOver stimulus (tableIn table) s)) tt
   where
-    go : (r : Run) → Gives replyOf 1 (madeOf r)
+    go : (r : RunOverBytes) → Gives replyOf 1 (madeOfRun r)
     go (ran input taken last) = (_ ∷ [], refl, refl)
     go tooLong = tt
     go (refused refusal place) = tt

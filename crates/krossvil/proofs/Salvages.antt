@@ -24,12 +24,12 @@ use Rattle.records.specs.Refusal.{numberOf}
 use Rattle.records.proofs.Places.{refusal-numbered}
 use Rattle.records.specs.Form as form
 use Rattle.records.specs.Form.{longestJournal}
-use Rattle.machine.specs.Walk.{Run, ran, tooLong, refused, runOver}
+use Rattle.machine.specs.Walk.{RunOverBytes, ran, tooLong, refused, runOver}
 use Rattle.journal.specs.declared.Answer as journal′
 use Rattle.journal.specs.declared.Answer.the-variants as checked
 use Rattle.journal.specs.Answer as journal
 use Rattle.journal.specs.Answer.{listed}
-use Rattle.journal.specs.Check.{answerOf, checkIn, checkOf}
+use Rattle.journal.specs.Check.{answerOfRun, checkIn, checkOf}
 use Rattle.salvage.specs.declared.Answer.{Answer}
 use Rattle.salvage.specs.declared.Answer.the-variants.{Salvaged, TableRefused, TooLong, Refused, BufferTooShort}
 use Rattle.salvage.specs.Answer.{replyOf}
@@ -120,8 +120,8 @@ TableSaid (checked.TableRefused x) = ((numberIn (table-answer.replyOf x) =? 0) �
 TableSaid checked.TooLong = Unit
 TableSaid (checked.Refused x place) = Unit
 
-under-said : (t : Table) (r : Run) → TableSaid (answerOf t r)
-unfolding answerOf
+under-said : (t : Table) (r : RunOverBytes) → TableSaid (answerOfRun t r)
+unfolding answerOfRun
 under-said t (ran input taken last) = tt
 under-said t tooLong = tt
 under-said t (refused refusal place) = tt

@@ -18,7 +18,7 @@ use Rattle.reaction.specs.Reaction.{firstLeaving, forHolds}
 use Rattle.moves.specs.declared.Judged.{Judged}
 use Rattle.moves.specs.declared.Judged.the-variants.{Passes, TableRefused, HasTimers, UnknownState, UnknownInput, TooManyMoves, LeavesStates, NoRoom}
 use Rattle.moves.specs.declared.Reaction.{Reaction}
-use Rattle.moves.specs.Answer.{refusalOf, passes?, replyOf}
+use Rattle.moves.specs.Answer.{refusalOf, judgedPasses?, replyOf}
 use Rattle.moves.specs.Moves.{nextTimes, judge, judgeOf, reactionOver, sumsOver, pathOver, movesOf}
 use Rattle.moves.proofs.Fitting.{fits}
 use Rattle.moves.proofs.Short.{worst-short}
@@ -99,7 +99,7 @@ module _ (s : List ℕ) (P A n : ℕ) (sums path answer : List ℕ) where
     pub length-small : {r : Reaction} → r ≡ reaction → r .length ≤ 65
     unfolding reactionOver
     length-small is =
-        let f = fits s P A n (length sums) (length path) (ap passes? passed) in
+        let f = fits s P A n (length sums) (length path) (ap judgedPasses? passed) in
         rw is (omega (arith, worst-short (tableIn s) P A (nextTimes (tableIn s) P A n) n, f .few))
 
     replies : gives numbers ≡ replyOf (movesOf s P A n (length sums) (length path))

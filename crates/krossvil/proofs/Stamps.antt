@@ -21,7 +21,7 @@ use Rattle.records.proofs.Places.{Within, items-within}
 use Rattle.stamped.specs.declared.Answer.{Answer}
 use Rattle.stamped.specs.declared.Answer.the-variants.{Written, TooLong, Refused, BufferTooShort}
 use Rattle.stamped.specs.Answer.{replyOf}
-use Rattle.stamped.specs.Stamped.{Listed, listed, stopped, before, listOf, madeOf, opened, readOf}
+use Rattle.stamped.specs.Stamped.{Listed, listed, stopped, before, listOf, madeOfRecords, readOpened, readOf}
 use Rattle.stamped.proofs.Answer as AnswerT
 use Rattle.stamped.proofs.Lengths.{Short, read-short}
 use Rattle.krossvil.specs.Small.{LengthFits}
@@ -54,21 +54,21 @@ list-by limit (broken refusal place) w = w .1
 -- ---- What is told
 
 tells : (s : List ℕ) → TellsLength replyOf (readOf s)
-unfolding readOf opened madeOf itemsOf
+unfolding readOf readOpened madeOfRecords itemsOf
 tells s = sized (longestStamped <? length s) refl (read-short s)
   where
-    of-list : (input : ℕ) (l : Listed) → StopsBy 1000000 l → Short (madeOf input l) → TellsLength replyOf (madeOf input l)
+    of-list : (input : ℕ) (l : Listed) → StopsBy 1000000 l → Short (madeOfRecords input l) → TellsLength replyOf (madeOfRecords input l)
     of-list input (listed rs) h few = (refl, omega (arith, few))
     of-list input (stopped refusal place) h few = small (replyOf (Refused refusal place)) (refusal-small refusal) h refl
 
-    of-opening : length s ≤ longestStamped → (o : Opening) → Short (opened s o) → TellsLength replyOf (opened s o)
+    of-opening : length s ≤ longestStamped → (o : Opening) → Short (readOpened s o) → TellsLength replyOf (readOpened s o)
     of-opening short (opening.Refused refusal) few = small (replyOf (Refused refusal 0)) (refusal-small refusal) (omega arith) refl
     of-opening short (opening.Input input) few =
         let within = items-within stamped anyRecord s 1000000 (suc (length s)) 4 0 (omega arith) in
         of-list input (listOf (itemsOf stamped anyRecord s)) (list-by 1000000 (itemsOf stamped anyRecord s) within) few
 
-    sized : (b : Bool) → (longestStamped <? length s) ≡ b → Short (if b then made.refused TooLong else opened s (openingOf stamped 256 s)) →
-        TellsLength replyOf (if b then made.refused TooLong else opened s (openingOf stamped 256 s))
+    sized : (b : Bool) → (longestStamped <? length s) ≡ b → Short (if b then made.refused TooLong else readOpened s (openingOf stamped 256 s)) →
+        TellsLength replyOf (if b then made.refused TooLong else readOpened s (openingOf stamped 256 s))
     sized true h few = small (replyOf TooLong) (omega arith) (omega arith) refl
     sized false h few = of-opening (ltb-false longestStamped (length s) h) (openingOf stamped 256 s) few
 

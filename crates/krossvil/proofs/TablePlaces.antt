@@ -16,7 +16,7 @@ use Rattle.table.specs.declared.Answer.the-variants as verdict
 use Rattle.table.specs.declared.Counts.{Counts}
 use Rattle.table.specs.Answer.{replyOf, _or-else_, _and-then_}
 use Rattle.table.specs.Entries.{entriesFrom}
-use Rattle.table.specs.Check.{named, fieldAnswer, rowAnswer, below, badWord, setAnswer, timerAnswer, countsAnswer, boundAnswer, countsIn, holdField}
+use Rattle.table.specs.Check.{expectedField, fieldAnswer, rowAnswer, below, badWord, setAnswer, timerAnswer, countsAnswer, boundAnswer, countsIn, holdField}
 use Rattle.table.specs.Check.{holdsAnswer, timerSetsAnswer, timersAnswer, timed, claimedTimers, timingAnswer, entriesAnswer, answerBy}
 use Rattle.table.proofs.Answers.{decided}
 use Rattle.table.proofs.Rows.{number-known}
@@ -55,10 +55,10 @@ by-entries entry (suc n) i all = by-then (entry i) _ (all i (omega arith)) (λ p
 
 module _ (s : List ℕ) (at tag : ℕ) (low : at ≤ 2000) where
   by-field : (size : ℕ) → By (fieldAnswer s at tag size)
-  unfolding fieldAnswer named
+  unfolding fieldAnswer expectedField
   by-field size = go (fieldAt s at)
     where
-      go : (f : Field) → By (named f at tag size)
+      go : (f : Field) → By (expectedField f at tag size)
       go RunOut = record { number = omega arith; place = low }
       go (Whole found claimed) = by-test ((found =? tag) && (claimed =? size)) (verdict.WrongTagOrLength at) (record { number = omega arith; place = low })
 

@@ -1,12 +1,12 @@
 -- What a host program in C gets: docs/RULES.md, "In C".
-use mathlib.Core.List.{List, [], _∷_, _++_}
+use mathlib.Core.List.{List, [], _++_}
 use Prim.Native.Nat.{ℕ, _+_, _*_, _^_}
 use lib.ListN.{length, drop, getD}
 use Rattle.wire.specs.Choice.{_<?_, _≤?_, _=?_, if_then_else_}
-use Rattle.wire.specs.Encode.{bytes32}
 use Rattle.wire.specs.Made.{answerIn, bufferIn}
 use Rattle.wire.specs.Reply.{Reply, gives, refuses, numberIn, placeIn, valuesIn}
 use Rattle.table.specs.Check.{tableIn}
+use Rattle.table.specs.Encode.{words}
 use Rattle.records.specs.Form as form
 use Rattle.machine.specs.Walk.{runOver}
 use Rattle.journal.specs.Answer as journal
@@ -48,13 +48,9 @@ numbered number place = number * 2 ^ 32 + place
 abbrev pub codeOf : Reply → ℕ
 codeOf reply = numbered (numberIn reply) (placeIn reply)
 
-unfoldable pub numberBytes : List ℕ → List ℕ
-numberBytes [] = []
-numberBytes (n ∷ rest) = bytes32 n ++ numberBytes rest
-
 -- The numbers stand at the start of the answer buffer, and its other bytes are unchanged.
 abbrev pub answerAfter : Reply → List ℕ → List ℕ
-answerAfter reply answer = numberBytes (valuesIn reply) ++ drop (4 * length (valuesIn reply)) answer
+answerAfter reply answer = words (valuesIn reply) ++ drop (4 * length (valuesIn reply)) answer
 
 -- A buffer that an entry writes to changes only if the host is told of a success.
 unfoldable pub bufferAfter : Reply → List ℕ → List ℕ → List ℕ

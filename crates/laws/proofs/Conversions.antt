@@ -16,19 +16,19 @@ use Rattle.sets.proofs.Members.{member-below, below-limit}
 use Rattle.table.specs.declared.Answer.{Answer}
 use Rattle.table.specs.declared.Answer.the-variants.{Passes}
 use Rattle.table.specs.declared.Table.{Table}
-use Rattle.table.specs.Entries.{values, filled, zeros}
+use Rattle.table.specs.Entries.{values, filledTo, zeros}
 use Rattle.table.specs.Table.{holdOf, delayedOf, delays, regionOf, holders, Uses, WellFormedBy, WellFormed}
 use Rattle.table.specs.Check.{wordEntry, countsIn, holdField, delayedField, oldAnswer, tableAnswer, tableWith, tableIn}
-use Rattle.table.specs.Encode.{encode, timing, words}
+use Rattle.table.specs.Encode.{tableBytes, timing, words}
 use Rattle.table.specs.Under.{underTable}
 use Rattle.table.proofs.Answers.{decided}
 use Rattle.table.proofs.Stands.{old-stands}
 use Rattle.table.proofs.Under.{under-passes}
-use Rattle.table.proofs.Values.{length-values, getD-filled, filled-uses}
+use Rattle.table.proofs.Values.{length-values, getD-filled, filled-uses, total-none}
 use Rattle.table.proofs.WellFormed.{well-formed-by, well-formed}
 use Rattle.table.proofs.Words.{length-words}
 use Rattle.convert.specs.declared.Answer.the-variants.{Converted, TableRefused, BufferTooShort}
-use Rattle.convert.specs.Convert.{newSet, change, withSets, emptied, total, byState, newBytes, changes, madeOf}
+use Rattle.convert.specs.Convert.{newSet, change, withSets, emptied, byState, newBytes, changes, madeOf}
 use Rattle.convert.proofs.Converting.{is-made, new-length}
 use Rattle.records.specs.Form as form
 use Rattle.journal.specs.Check.{checkIn}
@@ -36,9 +36,8 @@ use Rattle.reaction.specs.Reaction.{forHolds, reactionOf, reactOf}
 use Rattle.reaction.proofs.Entry.{has-holds}
 use Rattle.moves.specs.Moves.{judge, judgeOf, movesOf, sumsAfter, pathAfter}
 use Rattle.tight.specs.Tight.{reactTightOf}
-use Rattle.runtime.specs.Run as run
-use Rattle.runtime.specs.Run.{runOf}
-use Rattle.laws.specs.Conversions.{answerFor, newTable, ConvertsFaithfully, PassingComesBack, ConvertsOnce}
+use Rattle.runtime.specs.Run.{runOf, madeOfRun}
+use Rattle.laws.specs.Conversions.{conversionAnswer, newTable, ConvertsFaithfully, PassingComesBack, ConvertsOnce}
 use Rattle.laws.proofs.Rows.{front, same-array}
 use Rattle.laws.proofs.Encoding.{passes-encodes, encoding-passes}
 use Rattle.laws.proofs.Emptied.{
@@ -165,7 +164,7 @@ module _ (s : List ℕ) (passes : oldAnswer s ≡ Passes) where
   sets-same : sets ≡ take states (emptied table .delayed)
   unfolding emptied tableWith
   sets-same =
-      let read : (entry : ℕ → ℕ) (q : ℕ) → q < states → entry q ≡ getD (filled entry states (zeros 32)) q 0 =
+      let read : (entry : ℕ → ℕ) (q : ℕ) → q < states → entry q ≡ getD (filledTo entry states (zeros 32)) q 0 =
       λ entry q h. sym (getD-filled entry states 32 (well .states .1) q h)
       in
       values-same _ (λ q. newSet (holdOf table q) (delayedOf table q)) states (λ q h. rw (
@@ -174,8 +173,8 @@ module _ (s : List ℕ) (passes : oldAnswer s ≡ Passes) where
       ) refl)
       ∙ sym (front (λ q. newSet (holdOf table q) (delayedOf table q)) states 32)
 
-  table-encodes : s ≡ encode table → newBytes (countsIn s) s ≡ encode (emptied table)
-  unfolding newBytes encode timing emptied tableWith
+  table-encodes : s ≡ tableBytes table → newBytes (countsIn s) s ≡ tableBytes (emptied table)
+  unfolding newBytes tableBytes timing emptied tableWith
   table-encodes is =
       let old = words (take states (table .delayed)) in
       let room : states ≤ length (table .delayed) = rw (well .delayed-uses .places) (well .states .1) in
@@ -186,13 +185,13 @@ module _ (s : List ℕ) (passes : oldAnswer s ≡ Passes) where
       ∙ append-assoc (to04 table) (field05 table) (field 0x06 (words sets))
       ∙ ap (λ v. to04 table ++ (field05 table ++ field 0x06 (words v))) sets-same
 
-new-encodes : (s : List ℕ) (passes : oldAnswer s ≡ Passes) → s ≡ encode (tableIn s) → newBytes (countsIn s) s ≡ encode (emptied (tableIn s))
+new-encodes : (s : List ℕ) (passes : oldAnswer s ≡ Passes) → s ≡ tableBytes (tableIn s) → newBytes (countsIn s) s ≡ tableBytes (emptied (tableIn s))
 new-encodes s passes is = let same = is-table s passes in rw same (table-encodes s passes (rw same at is))
 
 -- ---- What the entry does with it
 
 -- A success comes only so.
-succeeded : (s buffer : List ℕ) (n : ℕ) → answerFor s buffer ≡ Converted n → (oldAnswer s ≡ Passes) × (length s ≤ length buffer)
+succeeded : (s buffer : List ℕ) (n : ℕ) → conversionAnswer s buffer ≡ Converted n → (oldAnswer s ≡ Passes) × (length s ≤ length buffer)
 unfolding madeOf answerIn
 succeeded s buffer n e = decided (oldAnswer s) (λ passes. (passes, roomy passes (rw passes at e))) (λ r other. let f : TableRefused (oldAnswer s) ≡ Converted n = rw r at e in apart cc)
   where
@@ -209,7 +208,7 @@ module _ (s buffer : List ℕ) (passes : oldAnswer s ≡ Passes) (room : length 
   enough : (length buffer <? length (newBytes (countsIn s) s)) ≡ false
   enough = le-ltb (length buffer) (length (newBytes (countsIn s) s)) (rw (new-length s buffer passes) room)
 
-  answers : answerFor s buffer ≡ Converted (changes (countsIn s) s)
+  answers : conversionAnswer s buffer ≡ Converted (changes (countsIn s) s)
   unfolding answerIn
   answers = rw (is-made s passes, enough) refl
 
@@ -254,7 +253,7 @@ converts-faithfully old buffer changed c =
     in (
       (is, now),
       λ F j. under-read s (emptied t) now read _ _ ∙ answers-same t few uses none F j,
-      λ e. under-read s (emptied t) now read _ _ ∙ ap run.madeOf (run-same t few uses none form.stimulus e),
+      λ e. under-read s (emptied t) now read _ _ ∙ ap madeOfRun (run-same t few uses none form.stimulus e),
       reacts,
       λ P A. rw (reacts P A, read, tight-same t few uses none P A) refl,
       λ P A n sums path. (
@@ -265,11 +264,6 @@ converts-faithfully old buffer changed c =
     )
 
 -- ---- A table that passes
-
-total-none : (f : ℕ → ℕ) (n : ℕ) → ((k : ℕ) → k < n → f k ≡ 0) → total f n ≡ 0
-unfolding total
-total-none f zero none = refl
-total-none f (suc n) none = rw (total-none f n (λ k h. none k (omega arith)), none n (omega arith)) refl
 
 -- Where no set is idle, none changes.
 kept-set : (hold set : ℕ) → (hold ≡ 0 → set ≡ 0) → (newSet hold set ≡ set) × (change hold set ≡ 0)
@@ -284,7 +278,7 @@ unfolding emptied
 emptied-same t ok none =
     let new : ℕ → ℕ = λ q. newSet (holdOf t q) (delayedOf t q) in
     let few = ok .states .1 in
-    let each : (q : ℕ) → q < t .states → getD (filled new (t .states) (zeros 32)) q 0 ≡ delayedOf t q =
+    let each : (q : ℕ) → q < t .states → getD (filledTo new (t .states) (zeros 32)) q 0 ≡ delayedOf t q =
     λ q h. getD-filled new (t .states) 32 few q h ∙ kept-set (holdOf t q) (delayedOf t q) (ok .not-idle refl q h) .0
     in
     rw (same-array (t .states) 32 _ (t .delayed) (filled-uses new (t .states) 32 few) (plain-uses t ok none) each) refl
@@ -292,7 +286,7 @@ emptied-same t ok none =
 old-well : (t : Table) → WellFormed t → t .timers ≡ 0 → WellFormedBy true t
 old-well t ok none = with-sets t ok (t .delayed) (ok .delayed) (λ new. absurd (never (sym new))) (λ old. none) (ok .delayed-uses)
 
-module _ (s : List ℕ) (t : Table) (ok : WellFormed t) (plain : t .timers ≡ 0) (is : s ≡ encode t) where
+module _ (s : List ℕ) (t : Table) (ok : WellFormed t) (plain : t .timers ≡ 0) (is : s ≡ tableBytes t) where
   read-it : (oldAnswer s ≡ Passes) × (tableIn s ≡ t)
   read-it = rw is (encoding-passes true t (old-well t ok plain))
 
@@ -306,14 +300,14 @@ module _ (s : List ℕ) (t : Table) (ok : WellFormed t) (plain : t .timers ≡ 0
       sym (getD-filled (wordEntry s (delayedField c)) (c .states) 32 few q h)
       ∙ ok′ .not-idle refl q h (getD-filled (wordEntry s (holdField c)) (c .states) 32 few q h ∙ none)) .1)
 
-  comes-back : (buffer : List ℕ) → length s ≤ length buffer → (answerFor s buffer ≡ Converted 0) × (newTable s buffer ≡ s)
+  comes-back : (buffer : List ℕ) → length s ≤ length buffer → (conversionAnswer s buffer ≡ Converted 0) × (newTable s buffer ≡ s)
   comes-back buffer room =
       let passes = read-it .0 in
       let same = read-it .1 in
-      let encoded : s ≡ encode (tableIn s) = is ∙ ap encode (sym same) in
+      let encoded : s ≡ tableBytes (tableIn s) = is ∙ ap tableBytes (sym same) in
       let emptied-is : emptied (tableIn s) ≡ tableIn s = rw same (emptied-same t ok plain) in (
         answers s buffer passes room ∙ ap Converted no-changes,
-        writes-new s buffer passes room ∙ new-encodes s passes encoded ∙ ap encode emptied-is ∙ sym encoded,
+        writes-new s buffer passes room ∙ new-encodes s passes encoded ∙ ap tableBytes emptied-is ∙ sym encoded,
       )
 
 pub passing-comes-back : PassingComesBack

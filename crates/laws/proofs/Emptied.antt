@@ -27,11 +27,11 @@ use Rattle.machine.specs.Machine.{start, kindOf, rule, verdict, left, stateAfte
 use Rattle.machine.proofs.Watches.{rule-by-state, left-by-state}
 use Rattle.machine.specs.Most as machine
 use Rattle.machine.specs.Run.{mostLeft}
-use Rattle.machine.specs.Walk.{Run, ran, tooLong, refused, inTable, filled, completed, onwards, walk, ranFrom, recordsRun, opened, runOver}
-use Rattle.journal.specs.Check.{answerOf, answerIn}
+use Rattle.machine.specs.Walk.{RunOverBytes, ran, tooLong, refused, inTable, filled, completed, onwards, walk, ranFrom, recordsRun, runOpened, runOver}
+use Rattle.journal.specs.Check.{answerOfRun, checkUnder}
 use Rattle.reaction.specs.Reaction.{nextSet, weightOf, weight, reactionTime, firstLeaving, reactionOf}
 use Rattle.tight.specs.Tight.{fromHold, needOf, outside, tightTime}
-use Rattle.moves.specs.Moves.{nextTimes, onPath, most, round, sumsOf, rows, pathFrom, largestSum, worstStart, worstPath, judge, reactionOver, sumsOver, pathOver}
+use Rattle.moves.specs.Moves.{nextTimes, onPath, mostAhead, round, sumsOf, rows, pathFrom, largestSum, worstStart, worstPath, judge, reactionOver, sumsOver, pathOver}
 use Rattle.convert.specs.Convert.{newSet, emptied}
 
 -- ---- One state
@@ -145,10 +145,10 @@ module _ (t : Table) (few : t .states ≤ 32) (uses : Uses (t .states) 32 (t .de
     records-same s input = ap (ranFrom input) (walk-same (itemsOf F (inTable F t) s) (start (t .initial) input))
 
     pub run-same : (s : List ℕ) → runOver F t′ s ≡ runOver F t s
-    unfolding runOver opened emptied
+    unfolding runOver runOpened emptied
     run-same s = ap (λ r. if F .most <? length s then tooLong else r) (go (openingOf F (t .inputs) s))
       where
-        go : (o : Opening) → opened F t′ s o ≡ opened F t s o
+        go : (o : Opening) → runOpened F t′ s o ≡ runOpened F t s o
         go (opening.Refused refusal) = refl
         go (opening.Input input) = records-same s input
 
@@ -159,11 +159,11 @@ module _ (t : Table) (few : t .states ≤ 32) (uses : Uses (t .states) 32 (t .de
       ap (λ n. max (if isTest r then n else 0) (mostLeft t′ (after t′ m r) rs)) (left-same m _)
       ∙ ap (max _) (ap (λ m′. mostLeft t′ m′ rs) (after-same m r) ∙ most-same rs (after t m r))
 
-  pub answers-same : (F : Form) (s : List ℕ) → answerIn F t′ s ≡ answerIn F t s
-  unfolding answerOf emptied
-  answers-same F s = ap (answerOf t′) (run-same F s) ∙ go (runOver F t s)
+  pub answers-same : (F : Form) (s : List ℕ) → checkUnder F t′ s ≡ checkUnder F t s
+  unfolding answerOfRun emptied
+  answers-same F s = ap (answerOfRun t′) (run-same F s) ∙ go (runOver F t s)
     where
-      go : (r : Run) → answerOf t′ r ≡ answerOf t r
+      go : (r : RunOverBytes) → answerOfRun t′ r ≡ answerOfRun t r
       go (ran input taken last) = rw (most-same taken (start (t .initial) input)) refl
       go tooLong = refl
       go (refused refusal place) = refl
@@ -219,7 +219,7 @@ module _ (t : Table) (few : t .states ≤ 32) (uses : Uses (t .states) 32 (t .de
   module _ (P A N : ℕ) where
     round-same : (row : List ℕ) → round t′ P A N row ≡ round t P A N row
     unfolding round emptied
-    round-same row = ap (λ w. values (λ q. if onPath t P A N q then w q + most t P A N row q else 0) (t .states)) (weights-same A)
+    round-same row = ap (λ w. values (λ q. if onPath t P A N q then w q + mostAhead t P A N row q else 0) (t .states)) (weights-same A)
 
     sums-same : (k : ℕ) → sumsOf t′ P A N k ≡ sumsOf t P A N k
     unfolding sumsOf emptied

@@ -15,8 +15,8 @@ use Rattle.table.specs.declared.Answer.the-variants.{Passes, CountOutOfRange, B
 use Rattle.table.specs.declared.Table.{Table}
 use Rattle.table.specs.Entries.{values}
 use Rattle.table.specs.Table.{largestBound, WellFormedBy}
-use Rattle.table.specs.Encode.{encode, timing}
-use Rattle.table.specs.Check.{bytesAnswer, countsIn, boundIn, inRange, countsInRange, nextField}
+use Rattle.table.specs.Encode.{tableBytes, timing}
+use Rattle.table.specs.Check.{bytesAnswer, countsIn, boundIn, isBetween, countsInRange, nextField}
 use Rattle.table.specs.Check.{countsAnswer, boundAnswer, entriesAnswer, answerBy, tableWith, tableOf, tableIn}
 use Rattle.table.proofs.Answers.{holds, goes-on}
 use Rattle.table.proofs.Rows.{row-stands, between}
@@ -36,8 +36,8 @@ module _ (s : List ℕ) (bytes : Bytes s) where
   bound-read whole = rw (← number-read s bytes 10 (whole .fits)) (field-read s bytes 7 0x02 4 whole)
 
 -- By the old rules or by today's.
-pub passes-encodes : (old : Bool) (s : List ℕ) → Bytes s → answerBy old s ≡ Passes → s ≡ encode (tableIn s)
-unfolding tableWith encode
+pub passes-encodes : (old : Bool) (s : List ℕ) → Bytes s → answerBy old s ≡ Passes → s ≡ tableBytes (tableIn s)
+unfolding tableWith tableBytes
 passes-encodes old s bytes e =
     let c = countsIn s in
     let stands = table-stands old s e in
@@ -52,17 +52,17 @@ passes-encodes old s bytes e =
 -- ---- An encoding
 
 module _ (t : Table) where
-  counts-written : countsIn (encode t) ≡ countsOf t
-  unfolding encode field
+  counts-written : countsIn (tableBytes t) ≡ countsOf t
+  unfolding tableBytes field
   counts-written = refl
 
   -- Grouped so that each field can be taken off the front.
-  fields-written : drop 0 (encode t) ≡
+  fields-written : drop 0 (tableBytes t) ≡
       field 0x01 (t .states ∷ t .inputs ∷ t .outputs ∷ t .initial ∷ [])
       ++ (field 0x02 (bytes32 (t .bound))
       ++ (field 0x03 (take (t .states) (t .output))
       ++ (field 0x04 (take (t .states * t .inputs) (t .next)) ++ (timing t ++ []))))
-  unfolding encode
+  unfolding tableBytes
   fields-written = simp (append-assoc, append-nil)
 
 module _ (old : Bool) (t : Table) (ok : WellFormedBy old t) where
@@ -77,10 +77,10 @@ module _ (old : Bool) (t : Table) (ok : WellFormedBy old t) where
       rw (div-add-mod' k (t .inputs)) at (ok .next (k / t .inputs) (k % t .inputs) (div-lt-iff-lt-mul some .1 h) (mod-lt k some))
 
 -- Of field i: fᵢ, it stands as written; pᵢ, the check lets it pass; kᵢ, its array is kept. The last two fields are Timing's.
-pub encoding-passes : (old : Bool) (t : Table) → WellFormedBy old t → (answerBy old (encode t) ≡ Passes) × (tableIn (encode t) ≡ t)
+pub encoding-passes : (old : Bool) (t : Table) → WellFormedBy old t → (answerBy old (tableBytes t) ≡ Passes) × (tableIn (tableBytes t) ≡ t)
 unfolding answerBy countsAnswer boundAnswer entriesAnswer tableWith
 encoding-passes old t ok =
-    let s = encode t in
+    let s = tableBytes t in
     let c = countsOf t in
     let q = t .states in
     let few : q ≤ 32 = ok .states .1 in
@@ -92,7 +92,7 @@ encoding-passes old t ok =
     let rest = timing-written old t ok s (f₄ .ends) in
     let bound : boundIn s ≡ t .bound = number-written s _ 10 (t .bound) (f₂ .holds) in
     let counts : countsInRange (countsIn s) ≡ true = ap countsInRange (counts-written t) ∙ counts-pass old t ok in
-    let bounded : inRange 1 largestBound (boundIn s) ≡ true = rw bound (between 1 largestBound (t .bound) (ok .bound)) in
+    let bounded : isBetween 1 largestBound (boundIn s) ≡ true = rw bound (between 1 largestBound (t .bound) (ok .bound)) in
     let p₁ : Passes ≡ countsAnswer s = goes-on (field-passes s 0 0x01 4 (f₁ .whole)) (sym (holds (CountOutOfRange 0) counts)) in
     let p₂ : Passes ≡ boundAnswer s = goes-on (field-passes s 7 0x02 4 (f₂ .whole)) (sym (holds (BoundOutOfRange 7) bounded)) in
     let p₃ : bytesAnswer s 14 0x03 q (t .outputs) ≡ Passes = row-passes f₃ _ _ (ok .output) in

@@ -14,7 +14,7 @@ use Rattle.records.specs.declared.Record.{Record}
 use Rattle.records.specs.declared.Record.the-variants.{End}
 use Rattle.records.specs.Record.{timeOf, isEnd, latest}
 use Rattle.records.specs.Form.{journal, longestJournal}
-use Rattle.records.specs.Encode.{bytesOf, bytesFrom, encode, Writable, Inner}
+use Rattle.records.specs.Encode.{bytesOf, bytesFrom, encode, WritableRecord, Inner}
 use Rattle.records.proofs.Reading.{OpeningAt}
 use Rattle.records.proofs.Shapes.{eight}
 use Rattle.records.proofs.Written.{journal-recovers, opening-read, record-read, bytes-more}
@@ -32,14 +32,14 @@ use Rattle.machine.specs.RunsOver.{RunsOver}
 -- ---- Records that may be written, whatever stands before them; none is the end
 
 abbrev Fine : (Record → Bool) → Record → Type 0
-Fine allows r = (before : ℕ) → Writable journal allows before r
+Fine allows r = (before : ℕ) → WritableRecord journal allows before r
 
 abbrev Plain : (Record → Bool) → List Record → Type 0
 Plain allows [] = Unit
 Plain allows (r ∷ rs) = (isEnd r ≡ false) × Fine allows r × Plain allows rs
 
 -- In a journal the time before does not matter.
-any-before : (allows : Record → Bool) (before : ℕ) (r : Record) → Writable journal allows before r → Fine allows r
+any-before : (allows : Record → Bool) (before : ℕ) (r : Record) → WritableRecord journal allows before r → Fine allows r
 any-before allows before r w before′ = record { in-range = w .in-range; whole = w .whole; small = w .small; timed = w .timed }
 
 end-fine : (t : Table) (time : ℕ) → time ≤ latest → Fine (inTable journal t) (End time)

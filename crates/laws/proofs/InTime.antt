@@ -15,9 +15,9 @@ use Rattle.reaction.specs.Reaction.{weightOf, weight}
 use Rattle.reaction.specs.Meaning.{Known, Pairs}
 use Rattle.reaction.proofs.Meaning.{AllExist}
 use Rattle.tight.specs.Tight.{fromHold}
-use Rattle.moves.specs.Moves.{nextTimes, most, sumsOf, largestSum, reactionOver}
+use Rattle.moves.specs.Moves.{nextTimes, mostAhead, sumsOf, largestSum, reactionOver}
 use Rattle.runs.specs.Reaction.{Weights, Reach, there, via, Suffices}
-use Rattle.runs.specs.Slots.{NotTooLate}
+use Rattle.runs.specs.Slots.{SlotsNotTooLate}
 use Rattle.runs.proofs.Late.{not-too-late}
 use Rattle.laws.specs.Paths.{OnPath}
 use Rattle.laws.proofs.Rounds.{on-path, ahead-most}
@@ -67,7 +67,7 @@ module _ {t : Table} {P A : ℕ} (all : AllExist t P A) (inside : (p a : ℕ) �
       go false o r =
           let on : OnPath P N q = record { is-in = within all inside j q m; outside = o } in
           let paid = on-path all N k q on in
-          via (getD (sumsOf t P A N (suc k)) q 0) q (most t P A N (sumsOf t P A N k) q) (omega arith) (λ a h. weaken (r a h) _ (ahead-most all N k q a h))
+          via (getD (sumsOf t P A N (suc k)) q 0) q (mostAhead t P A N (sumsOf t P A N k) q) (omega arith) (λ a h. weaken (r a h) _ (ahead-most all N k q a h))
 
   module _ (none : t .timers ≡ 0) where
     suffices : Suffices t (member P) (member A) (member N) (weight t A) (t .bound + largestSum t P A N n)
@@ -86,6 +86,6 @@ module _ {t : Table} {P A : ℕ} (all : AllExist t P A) (inside : (p a : ℕ) �
         from p m true o = there o
         from p m false o = weaken (reaches n 0 p (omega arith) m) _ (omega (arith, at-most all N n p (record { is-in = m; outside = o })))
 
-    pub moves-in-time : NotTooLate t (member P) (member A) (member (reactionOver t P A n .target)) (reactionOver t P A n .time)
+    pub moves-in-time : SlotsNotTooLate t (member P) (member A) (member (reactionOver t P A n .target)) (reactionOver t P A n .time)
     unfolding reactionOver
     moves-in-time = not-too-late suffices

@@ -10,7 +10,7 @@ use Rattle.wire.proofs.Apart.{apart}
 use Rattle.table.specs.declared.Table.{Table}
 use Rattle.table.specs.declared.Answer.the-variants.{Passes}
 use Rattle.table.specs.Table.{outputOf, WellFormed}
-use Rattle.table.specs.Encode as tables
+use Rattle.table.specs.Encode.{tableBytes}
 use Rattle.table.specs.Check.{tableAnswer}
 use Rattle.table.proofs.Under.{under-passes, under-passed}
 use Rattle.records.specs.declared.Record.{Record}
@@ -21,13 +21,13 @@ use Rattle.records.proofs.Written.{journal-recovers, short-recovers}
 use Rattle.records.proofs.Says.{keeps-all}
 use Rattle.machine.specs.declared.Machine.{Machine}
 use Rattle.machine.specs.Machine.{start, after}
-use Rattle.machine.specs.Run.{Runs, ticksOf, stateFrom, movesOf, mostLeft}
+use Rattle.machine.specs.Run.{Runs, ticksOf, stateFrom, movesFrom, mostLeft}
 use Rattle.machine.specs.Most.{most}
-use Rattle.machine.specs.Walk.{Run, ran, tooLong, refused, runOver}
+use Rattle.machine.specs.Walk.{RunOverBytes, ran, tooLong, refused, runOver}
 use Rattle.machine.proofs.Counts.{ticks-more}
 use Rattle.journal.specs.declared.Numbers.{Numbers}
 use Rattle.journal.specs.declared.Answer.the-variants.{Accepted, TableRefused}
-use Rattle.journal.specs.Check.{checkIn, numbersOf, answerOf, answerIn, checkOf}
+use Rattle.journal.specs.Check.{checkIn, numbersOf, answerOfRun, checkUnder, checkOf}
 use Rattle.machine.specs.RunsOver.{RunsOver}
 use Rattle.laws.specs.Journals.{AcceptedRun, AcceptsExactly, ChecksExactly}
 use Rattle.laws.proofs.Tables.{passes-exactly, holds-that-table}
@@ -43,8 +43,8 @@ ends-at t end m last (r ∷ rs) (taken, more) = ends-at t end (after t m r) last
 ticks-end : (rs : List Record) (end : ℕ) → ticksOf (rs ++ End end ∷ []) ≡ ticksOf rs
 ticks-end rs end = ticks-more rs (End end) ∙ omega arith
 
-moves-end : (q : ℕ) (rs : List Record) (end : ℕ) → movesOf q (rs ++ End end ∷ []) ≡ movesOf q rs
-unfolding movesOf
+moves-end : (q : ℕ) (rs : List Record) (end : ℕ) → movesFrom q (rs ++ End end ∷ []) ≡ movesFrom q rs
+unfolding movesFrom
 moves-end q [] end = rw (eq-eqb q q refl) refl
 moves-end q (r ∷ rs) end = rw (moves-end (stateFrom q r) rs end) refl
 
@@ -57,8 +57,8 @@ module _ (F : Form) (valued : F .valued ≡ true) (t : Table) (s : List ℕ) (n 
   abbrev AsRun : Type 0
   AsRun = AcceptedRun F t s n
 
-  pub run-accepted : AsRun → answerIn F t s ≡ Accepted n
-  unfolding answerOf
+  pub run-accepted : AsRun → checkUnder F t s ≡ Accepted n
+  unfolding answerOfRun
   run-accepted a =
       let end = n .end in
       let taken = a .records ++ End end ∷ [] in
@@ -93,18 +93,18 @@ module _ (F : Form) (valued : F .valued ≡ true) (t : Table) (s : List ℕ) (n 
         last = last;
         runs = rw same at runs;
         ticks-are = sym (ap (λ x. x .ticks) is) ∙ ap ticksOf all ∙ ticks-end (h .said) (h .end);
-        moves-are = sym (ap (λ x. x .moves) is) ∙ ap (movesOf (t .initial)) all ∙ moves-end (t .initial) (h .said) (h .end);
+        moves-are = sym (ap (λ x. x .moves) is) ∙ ap (movesFrom (t .initial)) all ∙ moves-end (t .initial) (h .said) (h .end);
         state-is = sym (ap (λ x. x .state) is);
         output-is = sym (ap (λ x. x .output) is) ∙ ap (λ x. outputOf t (x .state)) is;
         left-is = sym (ap (λ x. x .left) is) ∙ ap (mostLeft t (start (t .initial) input)) all ∙ left-end t (start (t .initial) input) (h .said) (h .end);
         longest-is = sym (ap (λ x. x .longest) is);
       }
 
-  accepted-run : Recovers F → Bytes s → answerIn F t s ≡ Accepted n → AsRun
-  unfolding answerOf
+  accepted-run : Recovers F → Bytes s → checkUnder F t s ≡ Accepted n → AsRun
+  unfolding answerOfRun
   accepted-run tells bytes e = go (runOver F t s) refl e
     where
-      go : (r : Run) → runOver F t s ≡ r → answerOf t r ≡ Accepted n → AsRun
+      go : (r : RunOverBytes) → runOver F t s ≡ r → answerOfRun t r ≡ Accepted n → AsRun
       go (ran input taken last) is f = through input taken last (over-runs F t s input taken last tells bytes is) f
       go tooLong is f = apart cc
       go (refused refusal place) is f = apart cc
@@ -115,15 +115,15 @@ accepts-exactly F valued tells t s bytes n = (accepted-run F valued t s n tells 
 -- ---- The entries
 
 module _ (F : Form) (table s : List ℕ) where
-  under-in : (t : Table) → WellFormed t → table ≡ tables.encode t → answerIn F t s ≡ checkIn F table s
+  under-in : (t : Table) → WellFormed t → table ≡ tableBytes t → checkUnder F t s ≡ checkIn F table s
   unfolding checkIn
   under-in t ok is =
       let h = holds-that-table table t ok is in
-      sym (under-passes TableRefused (λ x. answerIn F x s) table (h .0) ∙ ap (λ x. answerIn F x s) (h .1))
+      sym (under-passes TableRefused (λ x. checkUnder F x s) table (h .0) ∙ ap (λ x. checkUnder F x s) (h .1))
 
   table-passes : (n : Numbers) → checkIn F table s ≡ Accepted n → tableAnswer table ≡ Passes
   unfolding checkIn
-  table-passes n e = under-passed TableRefused (λ x. answerIn F x s) table _ (λ a f. apart cc) e
+  table-passes n e = under-passed TableRefused (λ x. checkUnder F x s) table _ (λ a f. apart cc) e
 
 checks-in : (F : Form) → F .valued ≡ true → Recovers F → ChecksExactly F
 checks-in F valued tells table s table-bytes bytes n = (
@@ -134,7 +134,7 @@ checks-in F valued tells table s table-bytes bytes n = (
   (λ p. sym (under-in F table s (p .0) (p .1) (p .2)) ∙ run-accepted F valued (p .0) s n (p .3)),
 )
 
-pub under : (table s : List ℕ) (t : Table) → WellFormed t → table ≡ tables.encode t → answerIn journal t s ≡ checkOf table s
+pub under : (table s : List ℕ) (t : Table) → WellFormed t → table ≡ tableBytes t → checkUnder journal t s ≡ checkOf table s
 under = under-in journal
 
 pub checks-exactly : ChecksExactly journal

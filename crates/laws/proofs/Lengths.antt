@@ -12,16 +12,16 @@ use Rattle.table.proofs.Under.{under-either}
 use Rattle.records.specs.declared.Record.the-variants.{End}
 use Rattle.records.specs.Form as form
 use Rattle.runtime.specs.declared.Answer.the-variants.{TableRefused}
-use Rattle.runtime.specs.Run.{journal, madeUnder, runOf}
+use Rattle.runtime.specs.Run.{journalMade, madeUnder, runOf}
 use Rattle.runtime.proofs.Lengths.{ran-lengths, journal-short}
 use Rattle.laws.specs.Runtimes.{eventFor, EightForAnEvent, NeverTooLong}
 use Rattle.machine.proofs.RunsOver.{over-written}
 use Rattle.laws.proofs.Runtimes.{wrote}
 
-made-under : (table s j : List ℕ) → runOf table s ≡ journal j → madeUnder (tableIn table) s ≡ journal j
+made-under : (table s j : List ℕ) → runOf table s ≡ journalMade j → madeUnder (tableIn table) s ≡ journalMade j
 unfolding runOf
 made-under table s j =
-    under-either (λ a. refused (TableRefused a)) (λ t. madeUnder t s) table (λ m. m ≡ journal j → madeUnder (tableIn table) s ≡ journal j)
+    under-either (λ a. refused (TableRefused a)) (λ t. madeUnder t s) table (λ m. m ≡ journalMade j → madeUnder (tableIn table) s ≡ journalMade j)
     (λ passed e. e) (λ e. apart cc)
 
 pub eight-for-an-event : EightForAnEvent

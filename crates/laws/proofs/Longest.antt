@@ -21,14 +21,14 @@ use Rattle.records.specs.declared.Record.the-variants.{Change, Poll, Test, Tick
 use Rattle.records.specs.Record.{timeOf, isEnd, latest}
 use Rattle.records.specs.Form as form
 use Rattle.records.specs.Form.{stimulus}
-use Rattle.records.specs.Encode.{bytesOf, bytesFrom, encode, kept, Writable, Inner}
+use Rattle.records.specs.Encode.{bytesOf, bytesFrom, encode, kept, WritableRecord, Inner}
 use Rattle.machine.specs.declared.Machine.{Machine}
 use Rattle.machine.specs.Machine.{start, allowed, verdict, after}
 use Rattle.machine.specs.Run.{Runs}
 use Rattle.machine.specs.Walk.{inTable, filled}
 use Rattle.machine.proofs.Steps.{taken-step, verdict-small}
 use Rattle.runtime.specs.declared.Answer.the-variants.{TableRefused}
-use Rattle.runtime.specs.Run.{journal, madeOf, madeUnder, runOf}
+use Rattle.runtime.specs.Run.{journalMade, madeOfRun, madeUnder, runOf}
 use Rattle.machine.specs.RunsOver.{RunsOver}
 use Rattle.laws.specs.Journals.{JournalOf}
 use Rattle.laws.specs.Runtimes.{StimulusOf, eventFor, LongestIsMade}
@@ -107,7 +107,7 @@ module _ (end : ℕ) (early : end ≤ latest) where
   bytes-length before k (suc n) = omega (arith, bytes-length (suc k) (suc k) n)
 
   module _ (t : Table) where
-    writable : (before : ℕ) (r : Record) → timeOf r ≤ latest → inTable stimulus t r ≡ true → kept stimulus r ≡ r → Writable stimulus (inTable stimulus t) before r
+    writable : (before : ℕ) (r : Record) → timeOf r ≤ latest → inTable stimulus t r ≡ true → kept stimulus r ≡ r → WritableRecord stimulus (inTable stimulus t) before r
     writable before r low in-range whole = record { in-range = in-range; whole = whole; small = omega arith; timed = refl }
 
     inner : (before k n : ℕ) → k + n ≡ end → Inner stimulus (inTable stimulus t) before (cycles k n) end
@@ -184,8 +184,8 @@ runs t bound end k (suc n) is m ready =
 -- ---- Their journal
 
 made : (table : List ℕ) → tableAnswer table ≡ Passes → (n : ℕ) → n ≤ 2730 →
-    (s : List ℕ) × (j : List ℕ) × Bytes s × (runOf table s ≡ journal j) × (length j ≡ 11 + 24 * n)
-unfolding runOf madeOf encode field
+    (s : List ℕ) × (j : List ℕ) × Bytes s × (runOf table s ≡ journalMade j) × (length j ≡ 11 + 24 * n)
+unfolding runOf madeOfRun encode field
 made table passes n few =
     let t = tableIn table in
     let good = well-formed table passes in
@@ -205,7 +205,7 @@ made table passes n few =
     } in
     let j = field 0x10 (0 ∷ []) ++ bytesFrom form.journal 0 (r .0) in
     let through = runs-over stimulus t s 0 (r .0) (r .1) over in
-    let is : runOf table s ≡ journal j = under-passes (λ a. refused (TableRefused a)) (λ x. madeUnder x s) table passes ∙ ap madeOf through in
+    let is : runOf table s ≡ journalMade j = under-passes (λ a. refused (TableRefused a)) (λ x. madeUnder x s) table passes ∙ ap madeOfRun through in
     let bytes = small-bytes (byte 0x20 (omega arith) (byte 0 (omega arith) (byte 1 (omega arith) (byte 0 (omega arith) (small n early 0 0 n (omega arith)))))) in
     (s, j, bytes, is, omega (arith, eight-for-an-event table s j is 0 es n st, cycles-length 0 n))
 

@@ -13,7 +13,7 @@ use Rattle.table.specs.Check.{tableIn}
 use Rattle.reaction.proofs.Meaning.{stays}
 use Rattle.moves.specs.declared.Reaction.{Reaction}
 use Rattle.moves.specs.declared.Answer.the-variants.{Reacts, Refused}
-use Rattle.moves.specs.Answer.{passes?}
+use Rattle.moves.specs.Answer.{judgedPasses?}
 use Rattle.moves.specs.Moves.{nextTimes, rows, largestSum, judgeOf, reactionOver, sumsOver, pathOver, movesOf, sumsAfter, pathAfter}
 use Rattle.laws.specs.Moves.{Told, MovesTold}
 use Rattle.laws.proofs.Paths.{sums-are-largest, largest-is-of-all, written-is-worst}
@@ -52,9 +52,9 @@ module _ {t : Table} {P A n : ℕ} {room room′ : ℕ} (ok : Fits t P A n room 
 
 -- Where it answers, nothing was turned down.
 module _ (s : List ℕ) (P A n : ℕ) (sums path : ℕ) where
-  pub answered : (r : Reaction) → movesOf s P A n sums path ≡ Reacts r → (passes? (judgeOf s P A n sums path) ≡ true) × (r ≡ reactionOver (tableIn s) P A n)
+  pub answered : (r : Reaction) → movesOf s P A n sums path ≡ Reacts r → (judgedPasses? (judgeOf s P A n sums path) ≡ true) × (r ≡ reactionOver (tableIn s) P A n)
   unfolding movesOf
-  answered r e = go (passes? (judgeOf s P A n sums path)) e
+  answered r e = go (judgedPasses? (judgeOf s P A n sums path)) e
     where
       go : (b : Bool) → (if b then Reacts (reactionOver (tableIn s) P A n) else Refused (judgeOf s P A n sums path)) ≡ Reacts r →
           (b ≡ true) × (r ≡ reactionOver (tableIn s) P A n)

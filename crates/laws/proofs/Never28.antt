@@ -28,10 +28,10 @@ use Rattle.machine.specs.declared.Gate.the-variants.{Open, Shut}
 use Rattle.machine.specs.declared.Step.{Step}
 use Rattle.machine.specs.declared.Step.the-variants as step
 use Rattle.machine.specs.Machine.{kindOf, allowed, settled, verdict, stateAfter, agrees, after, gate, through, step, start}
-use Rattle.machine.specs.Walk.{inTable, filled, Walk, ended, stopped, took, onwards, walk, Run, ran, tooLong, refused, ranFrom, recordsRun, opened, runOver}
+use Rattle.machine.specs.Walk.{inTable, filled, Walk, ended, stopped, took, onwards, walk, RunOverBytes, ran, tooLong, refused, ranFrom, recordsRun, runOpened, runOver}
 use Rattle.runtime.specs.declared.Answer.{Answer}
 use Rattle.runtime.specs.declared.Answer.the-variants.{TableRefused, Refused, BufferTooShort}
-use Rattle.runtime.specs.Run.{madeOf, runOf}
+use Rattle.runtime.specs.Run.{madeOfRun, runOf}
 use Rattle.laws.specs.Runtimes.{NeverDiffers}
 
 -- ---- The machine, on a record that agrees with it
@@ -83,20 +83,20 @@ walk-fine limit t m (item place e rest) (low, more) =
 walk-fine limit t m done w = tt
 walk-fine limit t m (broken refusal place) w = omega (arith, w .0)
 
-abbrev FineRun : Run → Type 0
+abbrev FineRun : RunOverBytes → Type 0
 FineRun (ran input taken last) = Unit
 FineRun tooLong = Unit
 FineRun (refused refusal place) = numberOf refusal ≤ 27
 
 run-fine : (t : Table) (s : List ℕ) → FineRun (runOver stimulus t s)
-unfolding runOver opened recordsRun itemsOf
+unfolding runOver runOpened recordsRun itemsOf
 run-fine t s = go (stimulus .most <? length s)
   where
     walked : (input : ℕ) (w : Walk) → Fine w → FineRun (ranFrom input w)
     walked input (ended taken last) h = tt
     walked input (stopped refusal place) h = h
 
-    begun : (o : Opening) → OpensWell o → FineRun (opened stimulus t s o)
+    begun : (o : Opening) → OpensWell o → FineRun (runOpened stimulus t s o)
     begun (opening.Refused refusal) h = omega arith
     begun (opening.Input input) h =
         let limit = 4 + 8 * suc (length s) in
@@ -104,7 +104,7 @@ run-fine t s = go (stimulus .most <? length s)
         let items = itemsOf stimulus (inTable stimulus t) s in
         walked input (walk stimulus t (start (t .initial) input) items) (walk-fine limit t (start (t .initial) input) items within)
 
-    go : (b : Bool) → FineRun (if b then tooLong else opened stimulus t s (openingOf stimulus (t .inputs) s))
+    go : (b : Bool) → FineRun (if b then tooLong else runOpened stimulus t s (openingOf stimulus (t .inputs) s))
     go true = tt
     go false = begun (openingOf stimulus (t .inputs) s) (opens-well 0x20 4 4 (t .inputs) s)
 
@@ -113,8 +113,8 @@ run-fine t s = go (stimulus .most <? length s)
 abbrev Never : ℕ → Answer → Type 0
 Never place a = a ≡ Refused Differs place → ⊥
 
-made-never : (place : ℕ) (r : Run) → FineRun r → Never place (answerMade (madeOf r))
-unfolding madeOf
+made-never : (place : ℕ) (r : RunOverBytes) → FineRun r → Never place (answerMade (madeOfRun r))
+unfolding madeOfRun
 made-never place (ran input taken last) h e = apart cc
 made-never place tooLong h e = apart cc
 made-never place (refused refusal p) h e = let same : refusal ≡ Differs = cc in let low : 28 ≤ 27 = rw same at h in omega arith
@@ -123,5 +123,5 @@ pub never-differs : NeverDiffers
 unfolding runOf
 never-differs table s room place =
     answer-either (Never place) BufferTooShort (λ e. apart cc) (runOf table s)
-    (under-either (λ a. Made.refused (TableRefused a)) (λ t. madeOf (runOver stimulus t s)) table (λ m. Never place (answerMade m))
+    (under-either (λ a. Made.refused (TableRefused a)) (λ t. madeOfRun (runOver stimulus t s)) table (λ m. Never place (answerMade m))
     (λ passed. made-never place (runOver stimulus (tableIn table) s) (run-fine (tableIn table) s)) (λ e. apart cc)) room

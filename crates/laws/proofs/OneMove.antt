@@ -27,7 +27,7 @@ use Rattle.moves.specs.declared.Judged.{Judged}
 use Rattle.moves.specs.declared.Judged.the-variants.{Passes, HasTimers, UnknownState, UnknownInput, LeavesStates}
 use Rattle.moves.specs.declared.Answer.the-variants.{Reacts, Refused}
 use Rattle.moves.specs.Answer as moves
-use Rattle.moves.specs.Answer.{passes?}
+use Rattle.moves.specs.Answer.{judgedPasses?}
 use Rattle.moves.specs.Moves.{nextTimes, onPath, sumsOf, largestSum, judge, judgeOf, reactionOver, movesOf}
 use Rattle.laws.specs.Moves.{withoutLength, OneMove}
 use Rattle.laws.proofs.Rounds.{exists, passed, on-path, none-ahead}
@@ -61,7 +61,7 @@ module _ {t : Table} {P A : ℕ} (all : AllExist t P A) where
 -- ---- The reply
 
 abbrev reply : Judged → Table → ℕ → ℕ → Reply
-reply j t P A = withoutLength (moves.replyOf (if passes? j then Reacts (reactionOver t P A 1) else Refused j))
+reply j t P A = withoutLength (moves.replyOf (if judgedPasses? j then Reacts (reactionOver t P A 1) else Refused j))
 
 refusal-kept : (r : Reply) → (numberIn r =? 0) ≡ false → withoutLength r ≡ r
 refusal-kept (gives values) e = never (sym e)

@@ -15,7 +15,7 @@ use Rattle.table.specs.declared.Table.{Table}
 use Rattle.table.specs.Table.{nextOf, WellFormed}
 use Rattle.reaction.specs.Meaning.{Known}
 use Rattle.reaction.proofs.Meaning.{AllExist}
-use Rattle.moves.specs.Moves.{onPath, ahead, most, worstInput, sumsOf, pathFrom, largestSum, worstStart, worstPath}
+use Rattle.moves.specs.Moves.{onPath, ahead, mostAhead, worstInput, sumsOf, pathFrom, largestSum, worstStart, worstPath}
 use Rattle.laws.specs.Paths.{statesIn, Begins, sumOf, OnPath, Follows, Path, PathOf, LargestFrom, Largest, ByTurns, SmallestInputs, Worst}
 use Rattle.laws.specs.Paths.{SumsAreLargest, LargestOfAll, WrittenIsWorst}
 use Rattle.moves.proofs.Smallest.{IsWorst, worst-found}
@@ -67,7 +67,7 @@ module _ {t : Table} {P A : ℕ} (all : AllExist t P A) (N : ℕ) where
     inputs : SmallestInputs t P A N (suc k) row
     bytes : length row ≡ 2 * length (statesIn row) - 1
 
-  stops : (k q : ℕ) → OnPath P N q → most t P A N (sumsOf t P A N k) q ≡ 0 → From k q (q ∷ [])
+  stops : (k q : ℕ) → OnPath P N q → mostAhead t P A N (sumsOf t P A N k) q ≡ 0 → From k q (q ∷ [])
   unfolding sumOf
   stops k q on none = record {
     begins = ([], refl);
@@ -105,16 +105,16 @@ module _ {t : Table} {P A : ℕ} (all : AllExist t P A) (N : ℕ) where
   path-from : (k q : ℕ) → OnPath P N q → From k q (pathFrom t P A N k q)
   unfolding pathFrom
   path-from zero q on = stops zero q on (none-ahead all N q (exists all N on))
-  path-from (suc k) q on = go (most t P A N (sumsOf t P A N (suc k)) q =? 0) refl (path-from k)
+  path-from (suc k) q on = go (mostAhead t P A N (sumsOf t P A N (suc k)) q =? 0) refl (path-from k)
     where
-      go : (b : Bool) → (most t P A N (sumsOf t P A N (suc k)) q =? 0) ≡ b → ((p : ℕ) → OnPath P N p → From k p (pathFrom t P A N k p)) →
+      go : (b : Bool) → (mostAhead t P A N (sumsOf t P A N (suc k)) q =? 0) ≡ b → ((p : ℕ) → OnPath P N p → From k p (pathFrom t P A N k p)) →
           From (suc k) q
           (if b then q ∷ []
           else q ∷ worstInput t P A N (sumsOf t P A N (suc k)) q ∷ pathFrom t P A N k (nextOf t q (worstInput t P A N (sumsOf t P A N (suc k)) q)))
       go true e r = stops (suc k) q on (eqb-true _ 0 e)
       go false e r =
           let a = worstInput t P A N (sumsOf t P A N (suc k)) q in
-          let some = eqb-false (most t P A N (sumsOf t P A N (suc k)) q) 0 e in
+          let some = eqb-false (mostAhead t P A N (sumsOf t P A N (suc k)) q) 0 e in
           let worst = worst-found (t .inputs) (member A) (ahead t P A N (sumsOf t P A N (suc k)) q) (omega arith) in
           let p-on = has-sum all N (suc k) (nextOf t q a) (next-exists all N q a (exists all N on) (worst .passes)) (omega (arith, worst .is)) in
           goes-on k q on a worst (r (nextOf t q a) p-on)

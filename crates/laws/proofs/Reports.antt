@@ -16,133 +16,133 @@ use Rattle.table.specs.declared.Answer.the-variants.{Passes}
 use Rattle.table.specs.declared.Table.{Table}
 use Rattle.table.specs.Table.{WellFormed}
 use Rattle.table.specs.Answer.{passes?}
-use Rattle.table.specs.Entries.{zeros}
+use Rattle.table.specs.Entries.{total, zeros}
 use Rattle.table.specs.Check.{tableAnswer, tableIn}
 use Rattle.table.specs.Under.{underTable}
+use Rattle.table.proofs.Values.{total-none, total-add}
 use Rattle.table.proofs.WellFormed.{well-formed}
 use Rattle.records.specs.Form.{journal}
 use Rattle.records.specs.Record.{latest}
-use Rattle.machine.specs.Walk.{Run, ran, tooLong, refused, runOver}
+use Rattle.machine.specs.Walk.{RunOverBytes, ran, tooLong, refused, runOver}
 use Rattle.journal.specs.declared.Answer.the-variants as checked
-use Rattle.journal.specs.Check.{answerOf, checkIn}
+use Rattle.journal.specs.Check.{answerOfRun, checkIn}
 use Rattle.tally.specs.declared.Tally.{Tally}
 use Rattle.tally.specs.Sums.{summed}
-use Rattle.tally.specs.Totals.{total}
 use Rattle.tally.proofs.Over.{records-over}
 use Rattle.tally.proofs.Totals.{dwell-sums-to-end, pairs-sum-to-dwell, entries-sum-to-moves, tally-small, places-of-tally}
 use Rattle.report.specs.declared.Answer.the-variants.{Taken, TableRefused, TooLong, Refused, Full}
 use Rattle.report.specs.declared.Report.{Report}
 use Rattle.report.specs.declared.Added as added
-use Rattle.report.specs.Report.{mostJournals, emptyWith, beginOf, tableOf, withTally, unchanged, addedBy, addUnder, addOf}
+use Rattle.report.specs.Report.{mostJournals, emptyWith, beginOf, tableKept, withTally, asItWas, addedBy, addUnder, addOf}
 use Rattle.laws.specs.Reports.{RefusedUnchanged, addedAll, NoneFull, Permuted, empty, first, swapped, further, AnyOrder}
-use Rattle.laws.specs.Reports.{Known, knownOf, knownIn, accepted, overAll, at, Tells, AllBytes, TellsAll, numbersIn, KnownAccepted}
+use Rattle.laws.specs.Reports.{KnownJournal, knownOf, knownJournalIn, accepted, overAll, at, Tells, AllBytes, TellsAll, numbersIn, KnownAccepted}
 
 -- ---- One journal
 
 -- An accepted one is added, or finds the report full; any other leaves it as it was.
-abbrev Effect : Report → List Known → added.Added → Type 0
+abbrev Effect : Report → List KnownJournal → added.Added → Type 0
 Effect x [] r = (r .report ≡ x) × (r .answer ≡ Taken → ⊥) × (r .answer ≡ Full → ⊥)
 Effect x (j ∷ js) r =
-    (js ≡ []) × (r ≡ (if mostJournals ≤? x .journals then unchanged x Full else record { answer = Taken; report = withTally x (j .tally) }))
+    (js ≡ []) × (r ≡ (if mostJournals ≤? x .journals then asItWas x Full else record { answer = Taken; report = withTally x (j .tally) }))
 
-run-effect : (t : Table) (x : Report) (r : Run) → Effect x (knownOf t r) (addedBy t x r)
+run-effect : (t : Table) (x : Report) (r : RunOverBytes) → Effect x (knownOf t r) (addedBy t x r)
 unfolding knownOf addedBy
 run-effect t x (ran input taken last) = (refl, refl)
 run-effect t x tooLong = (refl, (λ e. apart cc), (λ e. apart cc))
 run-effect t x (refused refusal place) = (refl, (λ e. apart cc), (λ e. apart cc))
 
-effect : (x : Report) (s : List ℕ) → Effect x (knownIn (tableOf x) s) (addOf x s)
-unfolding addOf addUnder knownIn underTable
-effect x s = go (passes? (tableAnswer (tableOf x)))
+effect : (x : Report) (s : List ℕ) → Effect x (knownJournalIn (tableKept x) s) (addOf x s)
+unfolding addOf addUnder knownJournalIn underTable
+effect x s = go (passes? (tableAnswer (tableKept x)))
   where
-    go : (b : Bool) → Effect x (if b then knownOf (tableIn (tableOf x)) (runOver journal (tableIn (tableOf x)) s) else [])
-        (if b then addedBy (tableIn (tableOf x)) x (runOver journal (tableIn (tableOf x)) s) else unchanged x (TableRefused (tableAnswer (tableOf x))))
-    go true = run-effect (tableIn (tableOf x)) x (runOver journal (tableIn (tableOf x)) s)
+    go : (b : Bool) → Effect x (if b then knownOf (tableIn (tableKept x)) (runOver journal (tableIn (tableKept x)) s) else [])
+        (if b then addedBy (tableIn (tableKept x)) x (runOver journal (tableIn (tableKept x)) s) else asItWas x (TableRefused (tableAnswer (tableKept x))))
+    go true = run-effect (tableIn (tableKept x)) x (runOver journal (tableIn (tableKept x)) s)
     go false = (refl, (λ e. apart cc), (λ e. apart cc))
 
 -- With an accepted one, if the report is not full.
-module _ (x : Report) (j : Known) where
+module _ (x : Report) (j : KnownJournal) where
   abbrev more : Report
   more = withTally x (j .tally)
 
-  taken-one : (r : added.Added) (js : List Known) → Effect x (j ∷ js) r → (r .answer ≡ Full → ⊥) →
+  taken-one : (r : added.Added) (js : List KnownJournal) → Effect x (j ∷ js) r → (r .answer ≡ Full → ⊥) →
       (x .journals < mostJournals) × (r .report ≡ more)
   taken-one r js e other = go (mostJournals ≤? x .journals) refl (e .1)
     where
-      go : (b : Bool) → (mostJournals ≤? x .journals) ≡ b → r ≡ (if b then unchanged x Full else record { answer = Taken; report = more }) →
+      go : (b : Bool) → (mostJournals ≤? x .journals) ≡ b → r ≡ (if b then asItWas x Full else record { answer = Taken; report = more }) →
           (x .journals < mostJournals) × (r .report ≡ more)
       go true is f = absurd (other (ap (λ (y : added.Added). y .answer) f))
       go false is f = (leb-false mostJournals (x .journals) is, ap (λ (y : added.Added). y .report) f)
 
-  not-full : (r : added.Added) (js : List Known) → Effect x (j ∷ js) r → x .journals < mostJournals →
+  not-full : (r : added.Added) (js : List KnownJournal) → Effect x (j ∷ js) r → x .journals < mostJournals →
       (r .answer ≡ Full → ⊥) × (r .report ≡ more)
   not-full r js e few =
       let f : r ≡ record { answer = Taken; report = more } = rw (lt-leb mostJournals (x .journals) few) at (e .1) in
       ((λ g. let h = sym (ap (λ (y : added.Added). y .answer) f) ∙ g in apart cc), ap (λ (y : added.Added). y .report) f)
 
 pub refused-unchanged : RefusedUnchanged
-refused-unchanged x s other = go (knownIn (tableOf x) s) (effect x s)
+refused-unchanged x s other = go (knownJournalIn (tableKept x) s) (effect x s)
   where
-    go : (js : List Known) → Effect x js (addOf x s) → addOf x s .report ≡ x
+    go : (js : List KnownJournal) → Effect x js (addOf x s) → addOf x s .report ≡ x
     go [] e = e .0
     go (j ∷ js) e = by (mostJournals ≤? x .journals) (e .1)
       where
-        by : (b : Bool) → addOf x s ≡ (if b then unchanged x Full else record { answer = Taken; report = withTally x (j .tally) }) → addOf x s .report ≡ x
+        by : (b : Bool) → addOf x s ≡ (if b then asItWas x Full else record { answer = Taken; report = withTally x (j .tally) }) → addOf x s .report ≡ x
         by true f = ap (λ (y : added.Added). y .report) f
         by false f = absurd (other (ap (λ (y : added.Added). y .answer) f))
 
 -- ---- A season is its accepted journals
 
-unfoldable withAll : Report → List Known → Report
+unfoldable withAll : Report → List KnownJournal → Report
 withAll x [] = x
 withAll x (j ∷ js) = withAll (withTally x (j .tally)) js
 
 -- There is room for them all.
-abbrev Few : Report → List Known → Type 0
+abbrev Few : Report → List KnownJournal → Type 0
 Few x js = 0 < length js → x .journals + length js ≤ mostJournals
 
-few-more : (x : Report) (j : Known) (js : List Known) → x .journals < mostJournals → Few (withTally x (j .tally)) js → Few x (j ∷ js)
+few-more : (x : Report) (j : KnownJournal) (js : List KnownJournal) → x .journals < mostJournals → Few (withTally x (j .tally)) js → Few x (j ∷ js)
 unfolding withTally
 few-more x j [] room few some = omega arith
 few-more x j (k ∷ js) room few some = let all = few (omega arith) in omega arith
 
-few-less : (x : Report) (j : Known) (js : List Known) → Few x (j ∷ js) → (x .journals < mostJournals) × Few (withTally x (j .tally)) js
+few-less : (x : Report) (j : KnownJournal) (js : List KnownJournal) → Few x (j ∷ js) → (x .journals < mostJournals) × Few (withTally x (j .tally)) js
 unfolding withTally
 few-less x j js few = let all = few (omega arith) in (omega arith, λ some. omega arith)
 
-same-table : (x : Report) (y : Tally) → tableOf (withTally x y) ≡ tableOf x
+same-table : (x : Report) (y : Tally) → tableKept (withTally x y) ≡ tableKept x
 unfolding withTally
 same-table x y = refl
 
-record Season (x : Report) (ss : List (List ℕ)) (js : List Known) : Type 0 where
+record Season (x : Report) (ss : List (List ℕ)) (js : List KnownJournal) : Type 0 where
   few : Few x js
   is : addedAll x ss ≡ withAll x js
 
-season : (ss : List (List ℕ)) (x : Report) → NoneFull x ss → Season x ss (accepted (tableOf x) ss)
+season : (ss : List (List ℕ)) (x : Report) → NoneFull x ss → Season x ss (accepted (tableKept x) ss)
 unfolding addedAll NoneFull accepted withAll
 season [] x none = record { few = λ some. absurd (omega arith); is = refl }
-season (s ∷ ss) x none = go (knownIn (tableOf x) s) (effect x s) (none .0) (season ss (addOf x s .report) (none .1))
+season (s ∷ ss) x none = go (knownJournalIn (tableKept x) s) (effect x s) (none .0) (season ss (addOf x s .report) (none .1))
   where
-    go : (js : List Known) → Effect x js (addOf x s) → (addOf x s .answer ≡ Full → ⊥) →
-        Season (addOf x s .report) ss (accepted (tableOf (addOf x s .report)) ss) → Season x (s ∷ ss) (js ++ accepted (tableOf x) ss)
+    go : (js : List KnownJournal) → Effect x js (addOf x s) → (addOf x s .answer ≡ Full → ⊥) →
+        Season (addOf x s .report) ss (accepted (tableKept (addOf x s .report)) ss) → Season x (s ∷ ss) (js ++ accepted (tableKept x) ss)
     go [] e other rest = let r = rw (e .0) at rest in record { few = r .few; is = rw (e .0) (r .is) }
     go (j ∷ js) e other rest =
         let one = taken-one x j (addOf x s) js e other in
         let r = rw (one .1, same-table x (j .tally)) at rest in
-        rw (e .0) record { few = few-more x j (accepted (tableOf x) ss) (one .0) (r .few); is = rw (one .1) (r .is) }
+        rw (e .0) record { few = few-more x j (accepted (tableKept x) ss) (one .0) (r .few); is = rw (one .1) (r .is) }
 
-none-full : (ss : List (List ℕ)) (x : Report) → Few x (accepted (tableOf x) ss) → NoneFull x ss
+none-full : (ss : List (List ℕ)) (x : Report) → Few x (accepted (tableKept x) ss) → NoneFull x ss
 unfolding NoneFull accepted
 none-full [] x few = tt
-none-full (s ∷ ss) x few = go (knownIn (tableOf x) s) (effect x s) few (none-full ss (addOf x s .report))
+none-full (s ∷ ss) x few = go (knownJournalIn (tableKept x) s) (effect x s) few (none-full ss (addOf x s .report))
   where
-    go : (js : List Known) → Effect x js (addOf x s) → Few x (js ++ accepted (tableOf x) ss) →
-        (Few (addOf x s .report) (accepted (tableOf (addOf x s .report)) ss) → NoneFull (addOf x s .report) ss) →
+    go : (js : List KnownJournal) → Effect x js (addOf x s) → Few x (js ++ accepted (tableKept x) ss) →
+        (Few (addOf x s .report) (accepted (tableKept (addOf x s .report)) ss) → NoneFull (addOf x s .report) ss) →
         (addOf x s .answer ≡ Full → ⊥) × NoneFull (addOf x s .report) ss
     go [] e few rest = (e .2, rest (rw (e .0) few))
     go (j ∷ js) e few rest =
-        let all : Few x (j ∷ accepted (tableOf x) ss) = rw (e .0) at few in
-        let less = few-less x j (accepted (tableOf x) ss) all in
+        let all : Few x (j ∷ accepted (tableKept x) ss) = rw (e .0) at few in
+        let less = few-less x j (accepted (tableKept x) ss) all in
         let one = not-full x j (addOf x s) js e (less .0) in
         (one .0, rest (rw (one .1, same-table x (j .tally)) (less .1)))
 
@@ -165,22 +165,22 @@ unfolding withTally
 tallies-twice x y z =
     rw (summed-twice (x .dwell) (y .dwell) (z .dwell), summed-twice (x .pairs) (y .pairs) (z .pairs), summed-twice (x .entries) (y .entries) (z .entries)) refl
 
-with-append : (js ks : List Known) (x : Report) → withAll x (js ++ ks) ≡ withAll (withAll x js) ks
+with-append : (js ks : List KnownJournal) (x : Report) → withAll x (js ++ ks) ≡ withAll (withAll x js) ks
 unfolding withAll
 with-append [] ks x = refl
 with-append (j ∷ js) ks x = with-append js ks (withTally x (j .tally))
 
-one-later : (js : List Known) (x : Report) (y : Tally) → withAll (withTally x y) js ≡ withTally (withAll x js) y
+one-later : (js : List KnownJournal) (x : Report) (y : Tally) → withAll (withTally x y) js ≡ withTally (withAll x js) y
 unfolding withAll
 one-later [] x y = refl
 one-later (j ∷ js) x y = ap (λ z. withAll z js) (tallies-twice x y (j .tally)) ∙ one-later js (withTally x (j .tally)) y
 
-all-twice : (js ks : List Known) (x : Report) → withAll (withAll x js) ks ≡ withAll (withAll x ks) js
+all-twice : (js ks : List KnownJournal) (x : Report) → withAll (withAll x js) ks ≡ withAll (withAll x ks) js
 unfolding withAll
 all-twice [] ks x = refl
 all-twice (j ∷ js) ks x = all-twice js ks (withTally x (j .tally)) ∙ ap (λ z. withAll z js) (one-later ks x (j .tally))
 
-record SameSum (js ks : List Known) : Type 0 where
+record SameSum (js ks : List KnownJournal) : Type 0 where
   many : length js ≡ length ks
   is : (x : Report) → withAll x js ≡ withAll x ks
 
@@ -190,12 +190,12 @@ permuted table empty = record { many = refl; is = λ x. refl }
 permuted table (first s p) =
     let r = permuted table p in
     record {
-      many = length-append (knownIn table s) _ ∙ ap (λ n. length (knownIn table s) + n) (r .many) ∙ sym (length-append (knownIn table s) _);
-      is = λ x. with-append (knownIn table s) _ x ∙ r .is (withAll x (knownIn table s)) ∙ sym (with-append (knownIn table s) _ x);
+      many = length-append (knownJournalIn table s) _ ∙ ap (λ n. length (knownJournalIn table s) + n) (r .many) ∙ sym (length-append (knownJournalIn table s) _);
+      is = λ x. with-append (knownJournalIn table s) _ x ∙ r .is (withAll x (knownJournalIn table s)) ∙ sym (with-append (knownJournalIn table s) _ x);
     }
 permuted table (swapped s s′ ss) =
-    let a = knownIn table s in
-    let b = knownIn table s′ in
+    let a = knownJournalIn table s in
+    let b = knownJournalIn table s′ in
     let c = accepted table ss in
     record {
       many = rw (length-append a (b ++ c), length-append b c, length-append b (a ++ c), length-append a c) (omega arith);
@@ -211,7 +211,7 @@ permuted table (further p q) =
 pub any-order : AnyOrder
 any-order x ss ss′ p none =
     let before = season ss x none in
-    let same = permuted (tableOf x) p in
+    let same = permuted (tableKept x) p in
     let none′ = none-full ss′ x (rw (← same .many) (before .few)) in
     (none′, before .is ∙ same .is x ∙ sym (season ss′ x none′ .is))
 
@@ -222,7 +222,7 @@ abbrev most : ℕ
 most = latest + 1
 
 -- What one journal's numbers come to.
-pub record Sums (t : Table) (j : Known) : Type 0 where
+pub record Sums (t : Table) (j : KnownJournal) : Type 0 where
   pub few-slots : (q : ℕ) → at (j .tally .dwell) q ≤ most
   pub few-with : (k : ℕ) → at (j .tally .pairs) k ≤ most
   pub few-entries : (q : ℕ) → at (j .tally .entries) q ≤ most
@@ -230,15 +230,15 @@ pub record Sums (t : Table) (j : Known) : Type 0 where
   pub each-input : (q : ℕ) → q < t .states → total (λ a. at (j .tally .pairs) (q * t .inputs + a)) (t .inputs) ≡ at (j .tally .dwell) q
   pub all-entries : total (at (j .tally .entries)) (t .states) ≡ j .numbers .moves + 1
 
-abbrev Each : (Known → Type 0) → List Known → Type 0
+abbrev Each : (KnownJournal → Type 0) → List KnownJournal → Type 0
 Each P [] = Unit
 Each P (j ∷ js) = P j × Each P js
 
-each-of : {P R : Known → Type 0} → ((j : Known) → P j → R j) → (js : List Known) → Each P js → Each R js
+each-of : {P R : KnownJournal → Type 0} → ((j : KnownJournal) → P j → R j) → (js : List KnownJournal) → Each P js → Each R js
 each-of f [] each = tt
 each-of f (j ∷ js) each = (f j (each .0), each-of f js (each .1))
 
-each-append : (P : Known → Type 0) (js ks : List Known) → Each P js → Each P ks → Each P (js ++ ks)
+each-append : (P : KnownJournal → Type 0) (js ks : List KnownJournal) → Each P js → Each P ks → Each P (js ++ ks)
 each-append P [] ks e f = f
 each-append P (j ∷ js) ks e f = (e .0, each-append P js ks (e .1) f)
 
@@ -256,12 +256,12 @@ place-summed (n ∷ sums) (i ∷ numbers) zero inside low = mod-eq-of-lt low
 place-summed (n ∷ sums) (i ∷ numbers) (suc k) inside low = place-summed sums numbers k (le-of-suc-le-suc inside) low
 
 -- One array's numbers of all the journals.
-module _ (f : Known → List ℕ) where
-  unfoldable sumAll : List ℕ → List Known → List ℕ
+module _ (f : KnownJournal → List ℕ) where
+  unfoldable sumAll : List ℕ → List KnownJournal → List ℕ
   sumAll sums [] = sums
   sumAll sums (j ∷ js) = sumAll (summed sums (f j)) js
 
-  place-all : (k : ℕ) (js : List Known) (sums : List ℕ) (n : ℕ) → k < length sums → at sums k ≤ n * most → n + length js ≤ mostJournals →
+  place-all : (k : ℕ) (js : List KnownJournal) (sums : List ℕ) (n : ℕ) → k < length sums → at sums k ≤ n * most → n + length js ≤ mostJournals →
       Each (λ j. at (f j) k ≤ most) js → at (sumAll sums js) k ≡ at sums k + overAll (λ j. at (f j) k) js
   unfolding sumAll overAll
   place-all k [] sums n inside low room each = omega arith
@@ -271,7 +271,7 @@ module _ (f : Known → List ℕ) where
       let rest = place-all k js (summed sums (f j)) (n + 1) (rw (length-summed sums (f j)) inside) (omega arith) (omega arith) (each .1) in
       rest ∙ omega arith
 
-  from-zeros : (k size : ℕ) (js : List Known) → k < size → length js ≤ mostJournals → Each (λ j. at (f j) k ≤ most) js →
+  from-zeros : (k size : ℕ) (js : List KnownJournal) → k < size → length js ≤ mostJournals → Each (λ j. at (f j) k ≤ most) js →
       at (sumAll (zeros size) js) k ≡ overAll (λ j. at (f j) k) js
   from-zeros k size js inside room each =
       let none : at (zeros size) k ≡ 0 = getD-replicate size k 0 0 inside in
@@ -285,49 +285,39 @@ unfolding total
 total-same f g zero same = refl
 total-same f g (suc n) same = rw (total-same f g n (λ k h. same k (omega arith)), same n (omega arith)) refl
 
-total-none : (n : ℕ) → total (λ k. 0) n ≡ 0
-unfolding total
-total-none zero = refl
-total-none (suc n) = let rest = total-none n in omega arith
-
-total-both : (f g : ℕ → ℕ) (n : ℕ) → total (λ k. f k + g k) n ≡ total f n + total g n
-unfolding total
-total-both f g zero = refl
-total-both f g (suc n) = let rest = total-both f g n in omega arith
-
-exchanged : (f : ℕ → Known → ℕ) (n : ℕ) (js : List Known) → total (λ k. overAll (f k) js) n ≡ overAll (λ j. total (λ k. f k j) n) js
+exchanged : (f : ℕ → KnownJournal → ℕ) (n : ℕ) (js : List KnownJournal) → total (λ k. overAll (f k) js) n ≡ overAll (λ j. total (λ k. f k j) n) js
 unfolding overAll
-exchanged f n [] = total-none n
-exchanged f n (j ∷ js) = total-both (λ k. f k j) (λ k. overAll (f k) js) n ∙ ap (λ m. total (λ k. f k j) n + m) (exchanged f n js)
+exchanged f n [] = total-none (λ k. 0) n (λ k h. refl)
+exchanged f n (j ∷ js) = total-add (λ k. f k j) (λ k. overAll (f k) js) n ∙ ap (λ m. total (λ k. f k j) n + m) (exchanged f n js)
 
-over-same : (f g : Known → ℕ) (js : List Known) → Each (λ j. f j ≡ g j) js → overAll f js ≡ overAll g js
+over-same : (f g : KnownJournal → ℕ) (js : List KnownJournal) → Each (λ j. f j ≡ g j) js → overAll f js ≡ overAll g js
 unfolding overAll
 over-same f g [] each = refl
 over-same f g (j ∷ js) each = rw (each .0, over-same f g js (each .1)) refl
 
 -- ---- All of them
 
-with-dwell : (js : List Known) (x : Report) → withAll x js .dwell ≡ sumAll (λ j. j .tally .dwell) (x .dwell) js
+with-dwell : (js : List KnownJournal) (x : Report) → withAll x js .dwell ≡ sumAll (λ j. j .tally .dwell) (x .dwell) js
 unfolding withAll sumAll withTally
 with-dwell [] x = refl
 with-dwell (j ∷ js) x = with-dwell js (withTally x (j .tally))
 
-with-pairs : (js : List Known) (x : Report) → withAll x js .pairs ≡ sumAll (λ j. j .tally .pairs) (x .pairs) js
+with-pairs : (js : List KnownJournal) (x : Report) → withAll x js .pairs ≡ sumAll (λ j. j .tally .pairs) (x .pairs) js
 unfolding withAll sumAll withTally
 with-pairs [] x = refl
 with-pairs (j ∷ js) x = with-pairs js (withTally x (j .tally))
 
-with-entries : (js : List Known) (x : Report) → withAll x js .entries ≡ sumAll (λ j. j .tally .entries) (x .entries) js
+with-entries : (js : List KnownJournal) (x : Report) → withAll x js .entries ≡ sumAll (λ j. j .tally .entries) (x .entries) js
 unfolding withAll sumAll withTally
 with-entries [] x = refl
 with-entries (j ∷ js) x = with-entries js (withTally x (j .tally))
 
-with-journals : (js : List Known) (x : Report) → withAll x js .journals ≡ x .journals + length js
+with-journals : (js : List KnownJournal) (x : Report) → withAll x js .journals ≡ x .journals + length js
 unfolding withAll withTally
 with-journals [] x = omega arith
 with-journals (j ∷ js) x = with-journals js (withTally x (j .tally)) ∙ omega arith
 
-module _ (t : Table) (well : WellFormed t) (table : List ℕ) (js : List Known) (room : length js ≤ mostJournals) (each : Each (Sums t) js) where
+module _ (t : Table) (well : WellFormed t) (table : List ℕ) (js : List KnownJournal) (room : length js ≤ mostJournals) (each : Each (Sums t) js) where
   abbrev x : Report
   x = withAll (emptyWith table) js
 
@@ -367,10 +357,10 @@ pub begun-with : (table : List ℕ) → tableAnswer table ≡ Passes → beginOf
 unfolding beginOf
 begun-with table passes = rw passes refl
 
-pub kept-table : (table : List ℕ) → tableOf (emptyWith table) ≡ table
+pub kept-table : (table : List ℕ) → tableKept (emptyWith table) ≡ table
 kept-table table = take-append-seam table _
 
-few-all : (table : List ℕ) (js : List Known) → Few (emptyWith table) js → length js ≤ mostJournals
+few-all : (table : List ℕ) (js : List KnownJournal) → Few (emptyWith table) js → length js ≤ mostJournals
 few-all table [] few = omega arith
 few-all table (j ∷ js) few = let all = few (omega arith) in omega arith
 
@@ -381,7 +371,7 @@ module _ (table s : List ℕ) (passes : tableAnswer table ≡ Passes) (bytes : B
   abbrev good : WellFormed t
   good = well-formed table passes
 
-  run-sums : (r : Run) → runOver journal t s ≡ r → Each (Sums t) (knownOf t r)
+  run-sums : (r : RunOverBytes) → runOver journal t s ≡ r → Each (Sums t) (knownOf t r)
   unfolding knownOf
   run-sums (ran input taken last) is =
       let T = last .time in
@@ -401,15 +391,15 @@ module _ (table s : List ℕ) (passes : tableAnswer table ≡ Passes) (bytes : B
   run-sums tooLong is = tt
   run-sums (refused refusal place) is = tt
 
-  known-sums : Each (Sums t) (knownIn table s)
-  unfolding knownIn underTable
+  known-sums : Each (Sums t) (knownJournalIn table s)
+  unfolding knownJournalIn underTable
   known-sums = rw passes (run-sums (runOver journal t s) refl)
 
 each-accepted : (table : List ℕ) → tableAnswer table ≡ Passes → (ss : List (List ℕ)) → AllBytes ss → Each (Sums (tableIn table)) (accepted table ss)
 unfolding accepted
 each-accepted table passes [] bytes = tt
 each-accepted table passes (s ∷ ss) bytes =
-    each-append (Sums (tableIn table)) (knownIn table s) _ (known-sums table s passes (bytes .0)) (each-accepted table passes ss (bytes .1))
+    each-append (Sums (tableIn table)) (knownJournalIn table s) _ (known-sums table s passes (bytes .0)) (each-accepted table passes ss (bytes .1))
 
 pub tells-all : TellsAll
 tells-all table passes ss bytes none =
@@ -417,17 +407,17 @@ tells-all table passes ss bytes none =
     rw (begun-with table passes, was .is)
     (all-tell (tableIn table) (well-formed table passes) table (accepted table ss) (few-all table (accepted table ss) (was .few)) (each-accepted table passes ss bytes))
 
-run-numbers : (t : Table) (r : Run) → map (λ (j : Known). j .numbers) (knownOf t r) ≡ numbersIn (answerOf t r)
-unfolding knownOf answerOf
+run-numbers : (t : Table) (r : RunOverBytes) → map (λ (j : KnownJournal). j .numbers) (knownOf t r) ≡ numbersIn (answerOfRun t r)
+unfolding knownOf answerOfRun
 run-numbers t (ran input taken last) = refl
 run-numbers t tooLong = refl
 run-numbers t (refused refusal place) = refl
 
 pub known-accepted : KnownAccepted
-unfolding knownIn checkIn underTable
+unfolding knownJournalIn checkIn underTable
 known-accepted table s = go (passes? (tableAnswer table))
   where
-    go : (b : Bool) → map (λ (j : Known). j .numbers) (if b then knownOf (tableIn table) (runOver journal (tableIn table) s) else []) ≡
-        numbersIn (if b then answerOf (tableIn table) (runOver journal (tableIn table) s) else checked.TableRefused (tableAnswer table))
+    go : (b : Bool) → map (λ (j : KnownJournal). j .numbers) (if b then knownOf (tableIn table) (runOver journal (tableIn table) s) else []) ≡
+        numbersIn (if b then answerOfRun (tableIn table) (runOver journal (tableIn table) s) else checked.TableRefused (tableAnswer table))
     go true = run-numbers (tableIn table) (runOver journal (tableIn table) s)
     go false = refl

@@ -15,7 +15,7 @@ use Rattle.table.specs.Table.{nextOf, holdOf, delays}
 use Rattle.table.proofs.Values.{getD-values}
 use Rattle.reaction.specs.Reaction.{weight, weightOf}
 use Rattle.reaction.proofs.Meaning.{AllExist}
-use Rattle.moves.specs.Moves.{onPath, ahead, most, round, sumsOf}
+use Rattle.moves.specs.Moves.{onPath, ahead, mostAhead, round, sumsOf}
 use Rattle.laws.specs.Paths.{OnPath}
 
 -- Every weight is above 0.
@@ -48,11 +48,11 @@ module _ {t : Table} {P A : ℕ} (all : AllExist t P A) (N : ℕ) where
   unfolding sumsOf
   before q l = getD-replicate (t .states) q 0 0 l
 
-  later : (k q : ℕ) → q < t .states → at (suc k) q ≡ (if onPath t P A N q then weight t A q + most t P A N (sumsOf t P A N k) q else 0)
+  later : (k q : ℕ) → q < t .states → at (suc k) q ≡ (if onPath t P A N q then weight t A q + mostAhead t P A N (sumsOf t P A N k) q else 0)
   unfolding sumsOf round
   later k q l = getD-values _ (t .states) q l
 
-  pub on-path : (k q : ℕ) → OnPath P N q → at (suc k) q ≡ weight t A q + most t P A N (sumsOf t P A N k) q
+  pub on-path : (k q : ℕ) → OnPath P N q → at (suc k) q ≡ weight t A q + mostAhead t P A N (sumsOf t P A N k) q
   on-path k q on = rw (tested on) at (later k q (exists on))
 
   pub off-path : (k q : ℕ) → q < t .states → onPath t P A N q ≡ false → at k q ≡ 0
@@ -69,10 +69,10 @@ module _ {t : Table} {P A : ℕ} (all : AllExist t P A) (N : ℕ) where
 
   -- ---- The sums ahead of a state
 
-  pub ahead-most : (k q a : ℕ) → member A a ≡ true → at k (nextOf t q a) ≤ most t P A N (sumsOf t P A N k) q
+  pub ahead-most : (k q a : ℕ) → member A a ≡ true → at k (nextOf t q a) ≤ mostAhead t P A N (sumsOf t P A N k) q
   ahead-most k q a m = largest-covers (t .inputs) (member A) (ahead t P A N (sumsOf t P A N k) q) a (all .inputs a m) m
 
-  pub none-ahead : (q : ℕ) → q < t .states → most t P A N (sumsOf t P A N 0) q ≡ 0
+  pub none-ahead : (q : ℕ) → q < t .states → mostAhead t P A N (sumsOf t P A N 0) q ≡ 0
   none-ahead q l = go (largest-reached (t .inputs) (member A) (ahead t P A N (sumsOf t P A N 0) q))
     where
       go : {m : ℕ} → (m ≡ 0) ⊎ Reaching (t .inputs) (member A) (ahead t P A N (sumsOf t P A N 0) q) m → m ≡ 0

@@ -15,7 +15,7 @@ use Rattle.wire.proofs.Laws.{WholeAt, whole-is}
 use Rattle.wire.proofs.Bytes.{byte-written, rest-written, number-written, field-written, byte-read, number-read, field-read}
 use Rattle.table.specs.declared.Answer.{Answer}
 use Rattle.table.specs.declared.Answer.the-variants.{Passes}
-use Rattle.table.specs.Entries.{entriesFrom, values, filled, zeros}
+use Rattle.table.specs.Entries.{entriesFrom, values, filledTo, zeros}
 use Rattle.table.specs.Check.{fieldAnswer, rowAnswer, below, byteEntry, wordEntry}
 use Rattle.table.specs.Table.{Uses}
 use Rattle.table.specs.Encode.{words}
@@ -108,21 +108,21 @@ module _ {s rest array : List ℕ} {at tag size n : ℕ} {entry : ℕ → ℕ} (
   row-passes limit called low =
       all-pass s at tag size _ n (row .whole) (λ k h. is-below limit entry called k (rw (row .entries k h) (low k h)))
 
-  pub row-kept : (places : ℕ) → n ≤ places → Uses n places array → filled entry n (zeros places) ≡ array
+  pub row-kept : (places : ℕ) → n ≤ places → Uses n places array → filledTo entry n (zeros places) ≡ array
   row-kept places fits uses =
       same-array n places _ array (filled-uses entry n places fits) uses (λ k h. getD-filled entry n places fits k h ∙ row .entries k h)
 
 -- ---- A row that is read
 
-pub front : (entry : ℕ → ℕ) (n places : ℕ) → take n (filled entry n (zeros places)) ≡ values entry n
+pub front : (entry : ℕ → ℕ) (n places : ℕ) → take n (filledTo entry n (zeros places)) ≡ values entry n
 front entry n places = take-at (values entry n) (drop n (zeros places)) n (length-values entry n)
 
 module _ (s : List ℕ) (bytes : Bytes s) (at tag n places : ℕ) where
-  pub byte-row-read : WholeAt s at tag n → drop at s ≡ field tag (take n (filled (byteEntry s at) n (zeros places))) ++ drop (at + 3 + n) s
+  pub byte-row-read : WholeAt s at tag n → drop at s ≡ field tag (take n (filledTo (byteEntry s at) n (zeros places))) ++ drop (at + 3 + n) s
   byte-row-read whole =
       rw (front (byteEntry s at) n places, ← bytes-read s (at + 3) n (whole .fits)) (field-read s bytes at tag n whole)
 
   pub word-row-read : WholeAt s at tag (4 * n) →
-      drop at s ≡ field tag (words (take n (filled (wordEntry s at) n (zeros places)))) ++ drop (at + 3 + 4 * n) s
+      drop at s ≡ field tag (words (take n (filledTo (wordEntry s at) n (zeros places)))) ++ drop (at + 3 + 4 * n) s
   word-row-read whole =
       rw (front (wordEntry s at) n places, ← words-read s (at + 3) bytes n (whole .fits)) (field-read s bytes at tag (4 * n) whole)

@@ -16,7 +16,7 @@ use Rattle.wire.proofs.Choice.{both}
 use Rattle.table.specs.declared.Table.{Table}
 use Rattle.table.specs.declared.Answer.the-variants.{Passes}
 use Rattle.table.specs.Table.{outputOf, WellFormed}
-use Rattle.table.specs.Encode as tables
+use Rattle.table.specs.Encode.{tableBytes}
 use Rattle.table.specs.Check.{tableAnswer}
 use Rattle.table.proofs.Under.{under-passes, under-either}
 use Rattle.records.specs.declared.Record.{Record}
@@ -24,23 +24,22 @@ use Rattle.records.specs.declared.Record.the-variants.{Change, Poll, Test, Tick
 use Rattle.records.specs.Record.{timeOf, isEnd, latest}
 use Rattle.records.specs.Form as form
 use Rattle.records.specs.Form.{longestStimulus}
-use Rattle.records.specs.Encode.{bytesFrom, encode, kept, Writable, Inner}
+use Rattle.records.specs.Encode.{bytesFrom, encode, kept, WritableRecord, Inner}
 use Rattle.records.proofs.Written.{stimulus-recovers}
 use Rattle.records.proofs.Says.{in-time, all-kept, keeps-all}
 use Rattle.machine.specs.declared.Machine.{Machine}
 use Rattle.machine.specs.Machine.{start, agrees, after}
-use Rattle.machine.specs.Run.{Runs, ticks, ticksOf, movesOf, mostLeft}
-use Rattle.machine.specs.Walk.{inTable, Run, ran, tooLong, runOver}
+use Rattle.machine.specs.Run.{Runs, ticks, ticksOf, movesFrom, mostLeft}
+use Rattle.machine.specs.Walk.{inTable, RunOverBytes, ran, tooLong, runOver}
 use Rattle.machine.specs.Walk as walk
 use Rattle.machine.proofs.Steps.{step-taken, Fits, fits-after, start-fits}
 use Rattle.machine.proofs.Walk.{completed-in-range}
 use Rattle.machine.proofs.Over.{went-through}
-use Rattle.journal.specs.Check as checks
-use Rattle.journal.specs.Check.{answerIn}
+use Rattle.journal.specs.Check.{checkUnder, answerOfRun}
 use Rattle.journal.specs.declared.Numbers.{Numbers}
 use Rattle.journal.specs.declared.Answer.the-variants as answer
 use Rattle.runtime.specs.declared.Answer.the-variants.{Written, TableRefused, BufferTooShort}
-use Rattle.runtime.specs.Run.{journal, madeOf, madeUnder, runOf, answerOf}
+use Rattle.runtime.specs.Run.{journalMade, madeOfRun, madeUnder, runOf, answerOf}
 use Rattle.runtime.proofs.Lengths.{under-short}
 use Rattle.machine.specs.RunsOver.{RunsOver}
 use Rattle.laws.specs.Journals.{AcceptedRun, JournalOf}
@@ -71,10 +70,10 @@ module _ (t : Table) where
   event-keeps (Tick time state) = (refl, refl, refl)
   event-keeps (End time) = (refl, refl, refl)
 
-  journal-writable : (before : ℕ) (r : Record) → inTable form.journal t r ≡ true → Writable form.journal (inTable form.journal t) before r
+  journal-writable : (before : ℕ) (r : Record) → inTable form.journal t r ≡ true → WritableRecord form.journal (inTable form.journal t) before r
   journal-writable before r h = record { in-range = h; whole = all-kept form.journal refl r; small = omega (arith, in-time form.journal (t .states) (t .inputs) r h); timed = refl }
 
-  event-writable : (before : ℕ) (r : Record) → inTable form.journal t r ≡ true → Writable form.stimulus (inTable form.stimulus t) before (eventFor r)
+  event-writable : (before : ℕ) (r : Record) → inTable form.journal t r ≡ true → WritableRecord form.stimulus (inTable form.stimulus t) before (eventFor r)
   event-writable before r h =
       let k = event-keeps r in
       record { in-range = event-in-range r h; whole = k .2; small = omega (arith, in-time form.journal (t .states) (t .inputs) r h, k .1); timed = refl }
@@ -150,11 +149,11 @@ pub record Wrote (t : Table) (s j : List ℕ) : Type 0 where
   pub through : runOver form.stimulus t s ≡ ran input taken last
   pub is : j ≡ field 0x10 (input ∷ []) ++ bytesFrom form.journal 0 taken
 
-pub wrote : (t : Table) (s j : List ℕ) → madeUnder t s ≡ journal j → Wrote t s j
-unfolding madeOf
+pub wrote : (t : Table) (s j : List ℕ) → madeUnder t s ≡ journalMade j → Wrote t s j
+unfolding madeOfRun
 wrote t s j e = go (runOver form.stimulus t s) refl e
   where
-    go : (r : Run) → runOver form.stimulus t s ≡ r → madeOf r ≡ journal j → Wrote t s j
+    go : (r : RunOverBytes) → runOver form.stimulus t s ≡ r → madeOfRun r ≡ journalMade j → Wrote t s j
     go (ran input taken last) is f = record { input = input; taken = taken; last = last; through = is; is = cc }
     go tooLong is f = apart cc
     go (walk.refused refusal place) is f = apart cc
@@ -168,7 +167,7 @@ record Filled (t : Table) (j : List ℕ) (input : ℕ) (es : List Record) (end :
   runs : Runs t (start (t .initial) input) (inside ++ End end ∷ []) last
 
 filled : (t : Table) → WellFormed t → (s : List ℕ) (input : ℕ) (es : List Record) (end : ℕ) → StimulusOf t s input es end →
-    (j : List ℕ) → madeUnder t s ≡ journal j → Filled t j input es end
+    (j : List ℕ) → madeUnder t s ≡ journalMade j → Filled t j input es end
 unfolding encode
 filled t good s input es end st j e =
     let w = wrote t s j e in
@@ -201,7 +200,7 @@ writes-accepted t good s input es end st j e =
     let n : Numbers = record {
       end = end;
       ticks = ticksOf es;
-      moves = movesOf (t .initial) (f .inside);
+      moves = movesFrom (t .initial) (f .inside);
       state = state;
       output = outputOf t state;
       left = mostLeft t (start (t .initial) input) (f .inside);
@@ -226,12 +225,12 @@ writes-accepted t good s input es end st j e =
 -- ---- Any accepted journal with that stimulus
 
 pub accepted-runs : (t : Table) (j : List ℕ) (input : ℕ) (rs : List Record) (end : ℕ) → JournalOf t j input rs end →
-    (n : Numbers) → answerIn form.journal t j ≡ answer.Accepted n →
+    (n : Numbers) → checkUnder form.journal t j ≡ answer.Accepted n →
     (last : Machine) × Runs t (start (t .initial) input) (rs ++ End end ∷ []) last
-unfolding checks.answerOf
+unfolding answerOfRun
 accepted-runs t j input rs end is n e = go (runOver form.journal t j) refl e
   where
-    go : (r : Run) → runOver form.journal t j ≡ r → checks.answerOf t r ≡ answer.Accepted n →
+    go : (r : RunOverBytes) → runOver form.journal t j ≡ r → answerOfRun t r ≡ answer.Accepted n →
         (last : Machine) × Runs t (start (t .initial) input) (rs ++ End end ∷ []) last
     go (ran input′ taken last) r f =
         let o = over-written form.journal t j input′ taken last input rs end is r in
@@ -241,8 +240,8 @@ accepted-runs t j input rs end is n e = go (runOver form.journal t j) refl e
     go (walk.refused refusal place) r f = apart cc
 
 -- The runtime writes it, if the stimulus is within its limit.
-pub writes : (t : Table) (s j : List ℕ) → length s ≤ longestStimulus → AcceptedFor t s j → madeUnder t s ≡ journal j
-unfolding madeOf encode
+pub writes : (t : Table) (s j : List ℕ) → length s ≤ longestStimulus → AcceptedFor t s j → madeUnder t s ≡ journalMade j
+unfolding madeOfRun encode
 writes t s j short a =
     let r = accepted-runs t j (a .input) (a .records) (a .end) (a .for .journal) (a .numbers) (a .accepted) in
     let taken = a .records ++ End (a .end) ∷ [] in
@@ -254,19 +253,19 @@ writes t s j short a =
       says = map-end (a .records) (a .end);
       runs = r .1;
     } in
-    ap madeOf (runs-over form.stimulus t s (a .input) taken (r .0) over) ∙ ap journal (sym (a .for .journal .is))
+    ap madeOfRun (runs-over form.stimulus t s (a .input) taken (r .0) over) ∙ ap journalMade (sym (a .for .journal .is))
 
 pub writes-the-only : WritesTheOnly
 writes-the-only t s j e j′ a =
     let w = wrote t s j e in
     let short = went-through form.stimulus t s (w .input) (w .taken) (w .last) (w .through) .short in
-    let same : journal j′ ≡ journal j = sym (writes t s j′ short a) ∙ e in
+    let same : journalMade j′ ≡ journalMade j = sym (writes t s j′ short a) ∙ e in
     cc
 
 -- ---- Success
 
 -- A journal that has room.
-fitting : (j : List ℕ) (room size : ℕ) → answerOf (journal j) room ≡ Written size → (length j ≡ size) × (size ≤ room)
+fitting : (j : List ℕ) (room size : ℕ) → answerOf (journalMade j) room ≡ Written size → (length j ≡ size) × (size ≤ room)
 unfolding Made.answerIn
 fitting j room size e = go (room <? length j) refl e
   where
@@ -278,7 +277,7 @@ fitting j room size e = go (room <? length j) refl e
         (same, omega arith)
 
 module _ (t : Table) (good : WellFormed t) (s : List ℕ) (bytes : Bytes s) where
-  pub accepted-for : (j : List ℕ) → madeUnder t s ≡ journal j → AcceptedFor t s j
+  pub accepted-for : (j : List ℕ) → madeUnder t s ≡ journalMade j → AcceptedFor t s j
   accepted-for j e =
       let k = keeps-the-stimulus t good s bytes j e in
       let st = stimulus-of t s j (k .0) (k .1) (k .2) (k .3) in
@@ -294,16 +293,16 @@ module _ (t : Table) (good : WellFormed t) (s : List ℕ) (bytes : Bytes s) wher
       }
 
   succeeded : (room size : ℕ) → answerOf (madeUnder t s) room ≡ Written size → laws.Writable t s room size
-  unfolding madeOf Made.answerIn
+  unfolding madeOfRun Made.answerIn
   succeeded room size e = go (runOver form.stimulus t s) refl e
     where
-      go : (r : Run) → runOver form.stimulus t s ≡ r → answerOf (madeOf r) room ≡ Written size → laws.Writable t s room size
+      go : (r : RunOverBytes) → runOver form.stimulus t s ≡ r → answerOf (madeOfRun r) room ≡ Written size → laws.Writable t s room size
       go (ran input taken last) is f =
           let j = field 0x10 (input ∷ []) ++ bytesFrom form.journal 0 taken in
           let p = fitting j room size f in
           record {
             journal = j;
-            accepted = accepted-for j (ap madeOf is);
+            accepted = accepted-for j (ap madeOfRun is);
             size-is = p .0;
             fits = p .1;
             short = went-through form.stimulus t s input taken last is .short;
@@ -321,7 +320,7 @@ succeeds-exactly t good s bytes room size = (succeeded t good s bytes room size,
 -- ---- The entry
 
 module _ (table s : List ℕ) where
-  pub runs-under : (t : Table) → WellFormed t → table ≡ tables.encode t → madeUnder t s ≡ runOf table s
+  pub runs-under : (t : Table) → WellFormed t → table ≡ tableBytes t → madeUnder t s ≡ runOf table s
   unfolding runOf
   runs-under t good is =
       let h = holds-that-table table t good is in
@@ -345,7 +344,7 @@ runs-exactly table s table-bytes bytes room size = (
 )
 
 -- A journal that fits stands at the start of the buffer.
-in-front : (j before : List ℕ) (size : ℕ) → length j ≡ size → size ≤ length before → take size (bufferIn (journal j) before) ≡ j
+in-front : (j before : List ℕ) (size : ℕ) → length j ≡ size → size ≤ length before → take size (bufferIn (journalMade j) before) ≡ j
 unfolding bufferIn
 in-front j before size is fits =
     let has-room = le-ltb (length before) (length j) (omega arith) in
@@ -360,7 +359,7 @@ writes-the-journal table s before table-bytes bytes size e =
     let front = ap (λ r. take size (bufferIn r before)) same ∙ in-front (w .journal) before size (w .size-is) (w .fits) in
     rw front (only-journal table s bytes (p .0) (p .1) (p .2) (w .journal) made)
   where
-    only-journal : (table′ s′ : List ℕ) → Bytes s′ → (t : Table) → WellFormed t → table′ ≡ tables.encode t → (j : List ℕ) → madeUnder t s′ ≡ journal j →
+    only-journal : (table′ s′ : List ℕ) → Bytes s′ → (t : Table) → WellFormed t → table′ ≡ tableBytes t → (j : List ℕ) → madeUnder t s′ ≡ journalMade j →
         OnlyJournal table′ s′ j
     only-journal table′ s′ bytes′ t good is j made =
         let k = keeps-the-stimulus t good s′ bytes′ j made in

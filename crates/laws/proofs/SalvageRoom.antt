@@ -14,19 +14,18 @@ use Rattle.table.proofs.WellFormed.{well-formed}
 use Rattle.records.specs.Form as form
 use Rattle.records.specs.Encode.{encode}
 use Rattle.journal.specs.declared.Answer.the-variants as checked
-use Rattle.journal.specs.Check as check
-use Rattle.journal.specs.Check.{checkIn}
+use Rattle.journal.specs.Check.{checkIn, checkUnder}
 use Rattle.journal.proofs.Accepted.{accepted}
 use Rattle.runtime.specs.declared.Answer.the-variants.{TableRefused}
-use Rattle.runtime.specs.Run.{journal, madeUnder, runOf}
+use Rattle.runtime.specs.Run.{madeUnder, runOf}
 use Rattle.salvage.specs.declared.Answer.the-variants.{BufferTooShort}
-use Rattle.laws.specs.Salvages.{answerFor, Salvageable, SalvageRoom}
+use Rattle.laws.specs.Salvages.{salvageAnswer, Salvageable, SalvageRoom}
 use Rattle.laws.proofs.Runtimes.{accepted-for}
 use Rattle.laws.proofs.Longest.{journal-bytes, longest-is-made}
 use Rattle.laws.proofs.Salvages.{unchanged-as, by-room}
 
 longest-needs : (table : List ℕ) → tableAnswer table ≡ Passes →
-    (s : List ℕ) × Bytes s × Salvageable table s × ((buffer : List ℕ) → length buffer < 65531 → answerFor table s buffer ≡ BufferTooShort)
+    (s : List ℕ) × Bytes s × Salvageable table s × ((buffer : List ℕ) → length buffer < 65531 → salvageAnswer table s buffer ≡ BufferTooShort)
 unfolding runOf checkIn encode field answerIn
 longest-needs table passes =
     let t = tableIn table in
@@ -35,7 +34,7 @@ longest-needs table passes =
     let j = m .1 in
     let made = sym (under-passes (λ a. refused (TableRefused a)) (λ x. madeUnder x (m .0)) table passes) ∙ m .3 in
     let a = accepted-for t good (m .0) (m .2) j made in
-    let ok = accepted form.journal table j (a .numbers) (under-passes checked.TableRefused (λ x. check.answerIn form.journal x j) table passes ∙ a .accepted) in
+    let ok = accepted form.journal table j (a .numbers) (under-passes checked.TableRefused (λ x. checkUnder form.journal x j) table passes ∙ a .accepted) in
     let same = unchanged-as table passes j (ok .input) (ok .taken) (ok .last) (ok .through) in
     let can : Salvageable table j = record {
       passes = passes;

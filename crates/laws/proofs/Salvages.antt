@@ -36,8 +36,7 @@ use Rattle.machine.specs.Walk.{inTable, Walk, ended, stopped, walk, ran, ranFro
 use Rattle.machine.proofs.Steps.{taken-step}
 use Rattle.machine.proofs.Over.{went-through, goes-through, opened-with}
 use Rattle.journal.specs.declared.Answer.the-variants as checked
-use Rattle.journal.specs.Check as check
-use Rattle.journal.specs.Check.{checkIn, numbersOf, answerOf, checkOf}
+use Rattle.journal.specs.Check.{checkIn, numbersOf, answerOfRun, checkOf, checkUnder}
 use Rattle.salvage.specs.declared.Answer.{Answer}
 use Rattle.salvage.specs.declared.Answer.the-variants.{Salvaged, TableRefused, TooLong, Refused, BufferTooShort}
 use Rattle.salvage.specs.Salvage.{Cut, cutAt, firstCut, lastCut, cutAfter, cutOver, unchanged, madeBy, opened, salvageUnder, salvageOf}
@@ -147,9 +146,9 @@ module _ (table : List ℕ) (passes : tableAnswer table ≡ Passes) where
   abbrev own : Table
   own = tableIn table
 
-  check-is : (s : List ℕ) → checkOf table s ≡ answerOf own (runOver journal own s)
+  check-is : (s : List ℕ) → checkOf table s ≡ answerOfRun own (runOver journal own s)
   unfolding checkIn
-  check-is s = under-passes checked.TableRefused (λ t. check.answerIn journal t s) table passes
+  check-is s = under-passes checked.TableRefused (λ t. checkUnder journal t s) table passes
 
   salvage-is : (s : List ℕ) → salvageOf table s ≡ salvageUnder own s
   unfolding salvageOf
@@ -158,8 +157,8 @@ module _ (table : List ℕ) (passes : tableAnswer table ≡ Passes) where
   -- A journal that the machine goes through is accepted, and comes back.
   module _ (s : List ℕ) (input : ℕ) (taken : List Record) (last : Machine) (through : runOver journal own s ≡ ran input taken last) where
     accepted-as : checkOf table s ≡ checked.Accepted (numbersOf own input taken last)
-    unfolding answerOf
-    accepted-as = check-is s ∙ ap (answerOf own) through
+    unfolding answerOfRun
+    accepted-as = check-is s ∙ ap (answerOfRun own) through
 
     pub unchanged-as : salvageOf table s ≡ unchanged s
     unfolding salvageUnder opened
@@ -209,7 +208,7 @@ module _ (table : List ℕ) (passes : tableAnswer table ≡ Passes) where
 
     closed-sound : (x : Refusal) (place : ℕ) → walk journal own (from own s input) (items own s input) ≡ stopped x place →
         Sound table s (cut .bytes) (length s - cut .bytes) (numberOf x) place (resultOf own s input cut)
-    unfolding recordsRun answerOf
+    unfolding recordsRun answerOfRun
     closed-sound x place stops =
         let taken = resting .front .records ++ End (cut .time) ∷ [] in
         let last = after own (resting .machine) (End (cut .time)) in
@@ -223,7 +222,7 @@ module _ (table : List ℕ) (passes : tableAnswer table ≡ Passes) where
           counted = omega (arith, resting .within);
           made = inr (record {
             refusal = x;
-            refused = check-is s ∙ ap (answerOf own) run;
+            refused = check-is s ∙ ap (answerOfRun own) run;
             number-is = refl;
             time = cut .time;
             ends = drop-at (take (cut .bytes) s) (field 0x1F (bytes32 (cut .time))) (cut .bytes) long;

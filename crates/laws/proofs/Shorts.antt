@@ -22,7 +22,7 @@ use Rattle.records.specs.Encode.{encode, Recovers}
 use Rattle.records.proofs.Says.{in-time, ranges-same, keeps-all}
 use Rattle.records.proofs.Written.{journal-recovers, short-recovers, gap-tells}
 use Rattle.machine.specs.declared.Machine.{Machine}
-use Rattle.machine.specs.Walk.{Run, ran, inTable, runOver}
+use Rattle.machine.specs.Walk.{RunOverBytes, ran, inTable, runOver}
 use Rattle.machine.specs.Gaps.{Spaced}
 use Rattle.machine.specs.RunsOver.{RunsOver}
 use Rattle.machine.proofs.Gaps.{TellsGaps, gaps-within-bound, inner-restated}

@@ -28,7 +28,7 @@ use Rattle.journal.specs.declared.Numbers.{Numbers}
 use Rattle.journal.specs.declared.Answer.the-variants.{Accepted}
 use Rattle.journal.proofs.Accepted.{passed}
 use Rattle.stamped.specs.declared.Answer.the-variants.{Written, BufferTooShort}
-use Rattle.stamped.specs.Stamped.{listed, listOf, madeOf, readOf}
+use Rattle.stamped.specs.Stamped.{listed, listOf, madeOfRecords, readOf}
 use Rattle.stamped.proofs.Over.{opened-with}
 use Rattle.stamped.proofs.Lengths.{read-short}
 use Rattle.laws.specs.Journals.{AcceptedRun}
@@ -91,7 +91,7 @@ module _ (t : Table) (good : WellFormed t) (j : List ℕ) (n : Numbers) (run : A
   stamps-written = record { opens = omega (arith, run .written .opens, good .inputs .1); inner = inner; is = refl }
 
   comes-back : readOf stamps ≡ made (Written (length j)) j
-  unfolding madeOf encode
+  unfolding madeOfRecords encode
   comes-back =
       let read = reads-written stamped anyRecord 256 stamps (run .input) (run .records) (n .end) stamps-written in
       let long : encode journal (run .input) (run .records) (n .end) ≡ j = sym (run .written .is) in

@@ -16,7 +16,7 @@ use Rattle.sets.proofs.Members.{below-limit}
 use Rattle.table.specs.declared.Answer.the-variants.{Passes, WrongTagOrLength, BytesAfter}
 use Rattle.table.specs.declared.Counts.{Counts}
 use Rattle.table.specs.declared.Table.{Table}
-use Rattle.table.specs.Entries.{filled, zeros}
+use Rattle.table.specs.Entries.{filledTo, zeros}
 use Rattle.table.specs.Table.{longestHold, mostTimers, holdOf, delayedOf, regionOf, timerSetOf, Uses, WellFormedBy}
 use Rattle.table.specs.Encode.{words, timing}
 use Rattle.table.specs.Check.{wordEntry, wordsAnswer, setsAnswer, timersRow, holdField, delayedField, tableEnd, timerSets}
@@ -60,17 +60,17 @@ module _ (s : List ℕ) (bytes : Bytes s) (c : Counts) where
 -- ---- Written
 
 -- An array of which nothing is used.
-unused : (entry : ℕ → ℕ) (size : ℕ) (array : List ℕ) → Uses 0 size array → filled entry 0 (zeros size) ≡ array
+unused : (entry : ℕ → ℕ) (size : ℕ) (array : List ℕ) → Uses 0 size array → filledTo entry 0 (zeros size) ≡ array
 unused entry size array uses = same-array 0 size _ array (filled-uses entry 0 size (omega arith)) uses (λ k h. absurd (omega arith))
 
 -- The fields pass, and the arrays of a table with so many timers are kept.
 pub record TimingWritten (old : Bool) (t : Table) (s : List ℕ) (c : Counts) : Type 0 where
   pub passes : timingAnswer old c s ≡ Passes
   pub timers : timersIn c s ≡ t .timers
-  pub hold : filled (wordEntry s (holdField c)) (if t .timers =? 0 then c .states else 0) (zeros 32) ≡ t .hold
-  pub delayed : filled (wordEntry s (delayedField c)) (if t .timers =? 0 then c .states else 0) (zeros 32) ≡ t .delayed
-  pub timing : filled (wordEntry s (holdField c)) (2 * t .timers) (zeros 8) ≡ t .timing
-  pub sets : filled (wordEntry s (timerSets c (t .timers))) (c .states * t .timers) (zeros 128) ≡ t .sets
+  pub hold : filledTo (wordEntry s (holdField c)) (if t .timers =? 0 then c .states else 0) (zeros 32) ≡ t .hold
+  pub delayed : filledTo (wordEntry s (delayedField c)) (if t .timers =? 0 then c .states else 0) (zeros 32) ≡ t .delayed
+  pub timing : filledTo (wordEntry s (holdField c)) (2 * t .timers) (zeros 8) ≡ t .timing
+  pub sets : filledTo (wordEntry s (timerSets c (t .timers))) (c .states * t .timers) (zeros 128) ≡ t .sets
 
 and-false : (a b : Bool) → b ≡ false → (a && b) ≡ false
 and-false true b e = e

@@ -9,14 +9,13 @@ use Rattle.wire.specs.Made.{answerIn, bufferIn}
 use Rattle.table.specs.declared.Answer.the-variants.{Passes}
 use Rattle.table.specs.declared.Table.{Table}
 use Rattle.table.specs.Check.{tableAnswer, tableIn}
-use Rattle.table.specs.Encode.{encode}
+use Rattle.table.specs.Encode.{tableBytes}
 use Rattle.records.specs.Form.{Form}
-use Rattle.journal.specs.Check as journal
-use Rattle.journal.specs.Check.{checkIn}
+use Rattle.journal.specs.Check.{checkIn, checkUnder}
 use Rattle.reaction.specs.Reaction.{reactionOf, reactOf}
 use Rattle.moves.specs.declared.Answer as moves
 use Rattle.moves.specs.declared.Answer.the-variants.{Reacts, Refused}
-use Rattle.moves.specs.Answer.{passes?}
+use Rattle.moves.specs.Answer.{judgedPasses?}
 use Rattle.moves.specs.Moves.{judge, reactionOver, sumsOver, pathOver, movesOf, sumsAfter, pathAfter}
 use Rattle.tight.specs.declared.Answer as tight
 use Rattle.tight.specs.Tight.{tightTime, beside, reactTightOf}
@@ -26,8 +25,8 @@ use Rattle.convert.specs.declared.Answer.the-variants.{Converted, BufferTooShor
 use Rattle.convert.specs.Convert.{emptied, madeOf}
 
 -- The answer on the bytes of an old table with a lent buffer, and what then stands at the start of the buffer.
-abbrev pub answerFor : (old buffer : List ℕ) → Answer
-answerFor old buffer = answerIn BufferTooShort (madeOf old) (length buffer)
+abbrev pub conversionAnswer : (old buffer : List ℕ) → Answer
+conversionAnswer old buffer = answerIn BufferTooShort (madeOf old) (length buffer)
 
 abbrev pub newTable : (old buffer : List ℕ) → List ℕ
 newTable old buffer = take (length old) (bufferIn (madeOf old) buffer)
@@ -35,7 +34,7 @@ newTable old buffer = take (length old) (bufferIn (madeOf old) buffer)
 -- The converter succeeds: it changed so many states.
 pub record Converts (old buffer : List ℕ) (changed : ℕ) : Type 0 where
   pub bytes : Bytes old
-  pub succeeds : answerFor old buffer ≡ Converted changed
+  pub succeeds : conversionAnswer old buffer ≡ Converted changed
 
 -- ---- The calculators under a table, whatever the check says of it
 
@@ -48,24 +47,24 @@ module _ (t : Table) (P A n : ℕ) where
   abbrev pub movesUnder : (sums path : ℕ) → moves.Answer
   movesUnder sums path =
       let judged = judge t P A n sums path in
-      if passes? judged then Reacts (reactionOver t P A n) else Refused judged
+      if judgedPasses? judged then Reacts (reactionOver t P A n) else Refused judged
 
   abbrev pub sumsUnder : (sums : List ℕ) (path : ℕ) → List ℕ
-  sumsUnder sums path = if passes? (judge t P A n (length sums) path) then sumsOver t P A n sums else sums
+  sumsUnder sums path = if judgedPasses? (judge t P A n (length sums) path) then sumsOver t P A n sums else sums
 
   abbrev pub pathUnder : (sums : ℕ) (path : List ℕ) → List ℕ
-  pathUnder sums path = if passes? (judge t P A n sums (length path)) then pathOver t P A n path else path
+  pathUnder sums path = if judgedPasses? (judge t P A n sums (length path)) then pathOver t P A n path else path
 
 -- ---- The theorems
 
 module _ (old buffer : List ℕ) where
   -- What it writes is the old table with those sets emptied, and passes the check.
   abbrev pub NowPasses : Type 0
-  NowPasses = (newTable old buffer ≡ encode (emptied (tableIn old))) × (tableAnswer (newTable old buffer) ≡ Passes)
+  NowPasses = (newTable old buffer ≡ tableBytes (emptied (tableIn old))) × (tableAnswer (newTable old buffer) ≡ Passes)
 
   -- In every form, journals and short ones among them, the check on the new table answers as the machine's rules have it under the old one;
   abbrev pub SameJournals : Type 0
-  SameJournals = (F : Form) (s : List ℕ) → checkIn F (newTable old buffer) s ≡ journal.answerIn F (tableIn old) s
+  SameJournals = (F : Form) (s : List ℕ) → checkIn F (newTable old buffer) s ≡ checkUnder F (tableIn old) s
 
   -- so does the runtime with every stimulus,
   abbrev pub SameRuns : Type 0
@@ -94,9 +93,9 @@ ConvertsFaithfully = (old buffer : List ℕ) (changed : ℕ) → Converts old bu
 -- A table with holds that passes the check comes back byte for byte, with 0, in every buffer that has room.
 abbrev pub PassingComesBack : Type 0
 PassingComesBack = (s buffer : List ℕ) → Bytes s → tableAnswer s ≡ Passes → tableIn s .timers ≡ 0 → length s ≤ length buffer →
-    (answerFor s buffer ≡ Converted 0) × (newTable s buffer ≡ s)
+    (conversionAnswer s buffer ≡ Converted 0) × (newTable s buffer ≡ s)
 
 -- Converting twice changes nothing more.
 abbrev pub ConvertsOnce : Type 0
 ConvertsOnce = (old buffer again : List ℕ) (changed : ℕ) → Converts old buffer changed → length old ≤ length again →
-    (answerFor (newTable old buffer) again ≡ Converted 0) × (newTable (newTable old buffer) again ≡ newTable old buffer)
+    (conversionAnswer (newTable old buffer) again ≡ Converted 0) × (newTable (newTable old buffer) again ≡ newTable old buffer)

@@ -6,17 +6,17 @@ use lib.ListN.{length, getD}
 use Rattle.wire.specs.Encode.{Bytes}
 use Rattle.table.specs.declared.Answer.the-variants.{Passes}
 use Rattle.table.specs.declared.Table.{Table}
+use Rattle.table.specs.Entries.{total}
 use Rattle.table.specs.Check.{tableAnswer, tableIn}
 use Rattle.table.specs.Under.{underTable}
 use Rattle.records.specs.Form.{journal}
-use Rattle.machine.specs.Walk.{Run, ran, tooLong, refused, runOver}
+use Rattle.machine.specs.Walk.{RunOverBytes, ran, tooLong, refused, runOver}
 use Rattle.journal.specs.declared.Numbers.{Numbers}
 use Rattle.journal.specs.declared.Answer.{Answer}
 use Rattle.journal.specs.declared.Answer.the-variants.{Accepted, TableRefused, TooLong, Refused}
 use Rattle.journal.specs.Check.{numbersOf, checkOf}
 use Rattle.tally.specs.declared.Tally.{Tally}
 use Rattle.tally.specs.Tally.{tallyOf}
-use Rattle.tally.specs.Totals.{total}
 use Rattle.report.specs.declared.Answer.the-variants.{Taken, Full}
 use Rattle.report.specs.declared.Report.{Report}
 use Rattle.report.specs.Report.{beginOf, addOf}
@@ -51,18 +51,18 @@ AnyOrder = (x : Report) (ss ss′ : List (List ℕ)) → Permuted ss ss′ → N
 -- ---- What it tells
 
 -- What is known of an accepted journal: the numbers of the check, and where its time went.
-pub record Known : Type 0 where
+pub record KnownJournal : Type 0 where
   pub numbers : Numbers
   pub tally : Tally
 
-unfoldable pub knownOf : Table → Run → List Known
+unfoldable pub knownOf : Table → RunOverBytes → List KnownJournal
 knownOf t (ran input taken last) = record { numbers = numbersOf t input taken last; tally = tallyOf t input taken (last .time) } ∷ []
 knownOf t tooLong = []
 knownOf t (refused refusal place) = []
 
 -- One for the bytes of a journal that is accepted; none for others.
-unfoldable pub knownIn : (table s : List ℕ) → List Known
-knownIn table s = underTable (λ answer. []) (λ t. knownOf t (runOver journal t s)) table
+unfoldable pub knownJournalIn : (table s : List ℕ) → List KnownJournal
+knownJournalIn table s = underTable (λ answer. []) (λ t. knownOf t (runOver journal t s)) table
 
 -- They are the accepted ones, with the numbers of the check.
 abbrev pub numbersIn : Answer → List Numbers
@@ -72,15 +72,15 @@ numbersIn TooLong = []
 numbersIn (Refused refusal place) = []
 
 abbrev pub KnownAccepted : Type 0
-KnownAccepted = (table s : List ℕ) → map (λ (j : Known). j .numbers) (knownIn table s) ≡ numbersIn (checkOf table s)
+KnownAccepted = (table s : List ℕ) → map (λ (j : KnownJournal). j .numbers) (knownJournalIn table s) ≡ numbersIn (checkOf table s)
 
 -- The accepted ones of a season.
-unfoldable pub accepted : List ℕ → List (List ℕ) → List Known
+unfoldable pub accepted : List ℕ → List (List ℕ) → List KnownJournal
 accepted table [] = []
-accepted table (s ∷ ss) = knownIn table s ++ accepted table ss
+accepted table (s ∷ ss) = knownJournalIn table s ++ accepted table ss
 
 -- The sum of a number over the journals.
-unfoldable pub overAll : (Known → ℕ) → List Known → ℕ
+unfoldable pub overAll : (KnownJournal → ℕ) → List KnownJournal → ℕ
 overAll f [] = 0
 overAll f (j ∷ js) = f j + overAll f js
 
@@ -89,7 +89,7 @@ at array k = getD array k 0
 
 -- Each number of the report is the sum of those of the accepted journals. All slots together are the sum of their T; those of a state with
 -- each input are the slots in the state; the entries are the moves and one more for each journal.
-pub record Tells (t : Table) (x : Report) (js : List Known) : Type 0 where
+pub record Tells (t : Table) (x : Report) (js : List KnownJournal) : Type 0 where
   pub journals : x .journals ≡ length js
   pub dwell : (q : ℕ) → q < 32 → at (x .dwell) q ≡ overAll (λ j. at (j .tally .dwell) q) js
   pub pairs : (k : ℕ) → k < 1024 → at (x .pairs) k ≡ overAll (λ j. at (j .tally .pairs) k) js

@@ -10,17 +10,17 @@ use Rattle.table.specs.declared.Table.{Table}
 use Rattle.table.specs.Table.{WellFormed}
 use Rattle.table.specs.declared.Answer.the-variants.{Passes}
 use Rattle.table.specs.Check.{tableAnswer, tableIn}
-use Rattle.table.specs.Encode as tables
+use Rattle.table.specs.Encode.{tableBytes}
 use Rattle.records.specs.declared.Record.{Record}
 use Rattle.records.specs.declared.Refusal.the-variants.{Differs}
 use Rattle.journal.specs.declared.Numbers.{Numbers}
 use Rattle.journal.specs.declared.Answer.the-variants.{Accepted}
-use Rattle.journal.specs.Check.{answerIn, checkOf}
+use Rattle.journal.specs.Check.{checkUnder, checkOf}
 use Rattle.records.specs.Form as form
 use Rattle.records.specs.Form.{longestStimulus}
 use Rattle.records.specs.Encode.{encode, kept, WrittenAs}
 use Rattle.runtime.specs.declared.Answer.the-variants.{Written, Refused}
-use Rattle.runtime.specs.Run.{journal, madeUnder, runOf, answerOf}
+use Rattle.runtime.specs.Run.{journalMade, madeUnder, runOf, answerOf}
 use Rattle.machine.specs.Run.{ticksOf}
 use Rattle.machine.specs.Walk.{inTable}
 use Rattle.laws.specs.Journals.{JournalOf}
@@ -44,14 +44,14 @@ pub record JournalFor (t : Table) (s j : List ℕ) (input : ℕ) (rs : List Reco
 
 -- It is a journal whose stimulus is the one that was given.
 abbrev pub KeepsTheStimulus : Type 0
-KeepsTheStimulus = (t : Table) → WellFormed t → (s : List ℕ) → Bytes s → (j : List ℕ) → madeUnder t s ≡ journal j →
+KeepsTheStimulus = (t : Table) → WellFormed t → (s : List ℕ) → Bytes s → (j : List ℕ) → madeUnder t s ≡ journalMade j →
     (input : ℕ) × (rs : List Record) × (end : ℕ) × JournalFor t s j input rs end
 
 -- The journal check accepts it under the same table, with the stimulus's T and number of ticks.
 abbrev pub WritesAccepted : Type 0
 WritesAccepted = (t : Table) → WellFormed t → (s : List ℕ) (input : ℕ) (es : List Record) (end : ℕ) → StimulusOf t s input es end →
-    (j : List ℕ) → madeUnder t s ≡ journal j →
-    (n : Numbers) × (n .end ≡ end) × (n .ticks ≡ ticksOf es) × (answerIn form.journal t j ≡ Accepted n)
+    (j : List ℕ) → madeUnder t s ≡ journalMade j →
+    (n : Numbers) × (n .end ≡ end) × (n .ticks ≡ ticksOf es) × (checkUnder form.journal t j ≡ Accepted n)
 
 -- The bytes j are an accepted journal, and s is its stimulus.
 pub record AcceptedFor (t : Table) (s j : List ℕ) : Type 0 where
@@ -60,12 +60,12 @@ pub record AcceptedFor (t : Table) (s j : List ℕ) : Type 0 where
   pub end : ℕ
   pub for : JournalFor t s j input records end
   pub numbers : Numbers
-  pub accepted : answerIn form.journal t j ≡ Accepted numbers
+  pub accepted : checkUnder form.journal t j ≡ Accepted numbers
   pub end-is : numbers .end ≡ end
 
 -- There is no other accepted journal with that stimulus.
 abbrev pub WritesTheOnly : Type 0
-WritesTheOnly = (t : Table) (s j : List ℕ) → madeUnder t s ≡ journal j → (j′ : List ℕ) → AcceptedFor t s j′ → j′ ≡ j
+WritesTheOnly = (t : Table) (s j : List ℕ) → madeUnder t s ≡ journalMade j → (j′ : List ℕ) → AcceptedFor t s j′ → j′ ≡ j
 
 -- An accepted journal of this many bytes exists for the stimulus; it fits the buffer, and the stimulus is within its limit.
 pub record Writable (t : Table) (s : List ℕ) (room size : ℕ) : Type 0 where
@@ -85,14 +85,14 @@ SucceedsExactly = (t : Table) → WellFormed t → (s : List ℕ) → Bytes s �
 -- It succeeds exactly on the bytes of a well-formed table under which the runtime does.
 abbrev pub RunsExactly : Type 0
 RunsExactly = (table s : List ℕ) → Bytes table → Bytes s → (room size : ℕ) →
-    (answerOf (runOf table s) room ≡ Written size) ↔ ((t : Table) × WellFormed t × (table ≡ tables.encode t) × Writable t s room size)
+    (answerOf (runOf table s) room ≡ Written size) ↔ ((t : Table) × WellFormed t × (table ≡ tableBytes t) × Writable t s room size)
 
 -- The bytes j are the journal for the stimulus s: the journal check accepts them on the same table bytes, with the stimulus's T and
 -- number of ticks, and no other accepted journal has that stimulus.
 pub record OnlyJournal (table s j : List ℕ) : Type 0 where
   pub under : Table
   pub well-formed : WellFormed under
-  pub table-is : table ≡ tables.encode under
+  pub table-is : table ≡ tableBytes under
   pub input : ℕ
   pub records : List Record
   pub end : ℕ
@@ -116,7 +116,7 @@ NeverDiffers = (table s : List ℕ) (room place : ℕ) → answerOf (runOf table
 
 -- Of a stimulus with n events it has 11 + 8 × n bytes: opening and end as they are there, and eight for each event.
 abbrev pub EightForAnEvent : Type 0
-EightForAnEvent = (table s j : List ℕ) → runOf table s ≡ journal j →
+EightForAnEvent = (table s j : List ℕ) → runOf table s ≡ journalMade j →
     (input : ℕ) (es : List Record) (end : ℕ) → StimulusOf (tableIn table) s input es end → length j ≡ 11 + 8 * length es
 
 -- In a stimulus an event has at least seven bytes, so that 57,344 have room for 8,190 events.
@@ -125,9 +125,9 @@ longestMade = 65531
 
 -- No journal that is made is longer, so that none passes the 65,536 bytes that a journal may have;
 abbrev pub NeverTooLong : Type 0
-NeverTooLong = (table s j : List ℕ) → runOf table s ≡ journal j → length j ≤ longestMade
+NeverTooLong = (table s j : List ℕ) → runOf table s ≡ journalMade j → length j ≤ longestMade
 
 -- and under every table that passes one is that long.
 abbrev pub LongestIsMade : Type 0
 LongestIsMade = (table : List ℕ) → tableAnswer table ≡ Passes →
-    (s : List ℕ) × (j : List ℕ) × Bytes s × (runOf table s ≡ journal j) × (length j ≡ longestMade)
+    (s : List ℕ) × (j : List ℕ) × Bytes s × (runOf table s ≡ journalMade j) × (length j ≡ longestMade)

@@ -46,8 +46,8 @@ SoundTick t s time ends = (input : ℕ) × (openingOf journal (t .inputs) s ≡ 
 -- ---- What is made of a journal
 
 -- The answer on a table and a journal with a lent buffer.
-abbrev pub answerFor : (table s buffer : List ℕ) → Answer
-answerFor table s buffer = answerIn BufferTooShort (salvageOf table s) (length buffer)
+abbrev pub salvageAnswer : (table s buffer : List ℕ) → Answer
+salvageAnswer table s buffer = answerIn BufferTooShort (salvageOf table s) (length buffer)
 
 -- How many bytes are written: those kept and, where something was refused, the seven of an end field.
 abbrev pub resultSize : (kept number : ℕ) → ℕ
@@ -78,7 +78,7 @@ pub record Closed (table s : List ℕ) (kept number place : ℕ) (result : List 
 -- With room for it the result comes back unchanged, and the report says its length, 0, 0 and 0.
 abbrev pub ComesBack : (table result : List ℕ) → Type 0
 ComesBack table result = (buffer : List ℕ) → length result ≤ length buffer →
-    (answerFor table result buffer ≡ Salvaged (length result) 0 0 0) × (resultIn table result buffer (length result) 0 ≡ result)
+    (salvageAnswer table result buffer ≡ Salvaged (length result) 0 0 0) × (resultIn table result buffer (length result) 0 ≡ result)
 
 pub record Sound (table s : List ℕ) (kept dropped number place : ℕ) (result : List ℕ) : Type 0 where
   -- The journal check accepts the result under the same table.
@@ -94,7 +94,7 @@ pub record Sound (table s : List ℕ) (kept dropped number place : ℕ) (result 
 
 -- Whenever it succeeds.
 abbrev pub SalvagesSoundly : Type 0
-SalvagesSoundly = (table s buffer : List ℕ) → Bytes s → (kept dropped number place : ℕ) → answerFor table s buffer ≡ Salvaged kept dropped number place →
+SalvagesSoundly = (table s buffer : List ℕ) → Bytes s → (kept dropped number place : ℕ) → salvageAnswer table s buffer ≡ Salvaged kept dropped number place →
     Sound table s kept dropped number place (resultIn table s buffer kept number)
 
 -- ---- When it succeeds
@@ -109,7 +109,7 @@ pub record Salvageable (table s : List ℕ) : Type 0 where
 
 -- It succeeds with this buffer.
 abbrev pub Succeeds : (table s buffer : List ℕ) → Type 0
-Succeeds table s buffer = (kept : ℕ) × (dropped : ℕ) × (number : ℕ) × (place : ℕ) × (answerFor table s buffer ≡ Salvaged kept dropped number place)
+Succeeds table s buffer = (kept : ℕ) × (dropped : ℕ) × (number : ℕ) × (place : ℕ) × (salvageAnswer table s buffer ≡ Salvaged kept dropped number place)
 
 -- There is one report: it comes with every buffer that has a byte for each that it says is written, and with any other comes 30.
 pub record GoesByRoom (table s : List ℕ) : Type 0 where
@@ -117,8 +117,8 @@ pub record GoesByRoom (table s : List ℕ) : Type 0 where
   pub dropped : ℕ
   pub number : ℕ
   pub place : ℕ
-  pub with-room : (buffer : List ℕ) → resultSize kept number ≤ length buffer → answerFor table s buffer ≡ Salvaged kept dropped number place
-  pub without : (buffer : List ℕ) → length buffer < resultSize kept number → answerFor table s buffer ≡ BufferTooShort
+  pub with-room : (buffer : List ℕ) → resultSize kept number ≤ length buffer → salvageAnswer table s buffer ≡ Salvaged kept dropped number place
+  pub without : (buffer : List ℕ) → length buffer < resultSize kept number → salvageAnswer table s buffer ≡ BufferTooShort
 
 -- What can be salvaged succeeds by the room alone, and nothing else does.
 abbrev pub SalvagesExactly : Type 0
@@ -129,7 +129,7 @@ SalvagesExactly = (table s : List ℕ) → Bytes s →
 pub record LeastRoom (room : ℕ) : Type 0 where
   pub enough : (table s buffer : List ℕ) → Bytes s → Salvageable table s → room ≤ length buffer → Succeeds table s buffer
   pub no-less : (table : List ℕ) → tableAnswer table ≡ Passes →
-      (s : List ℕ) × Bytes s × Salvageable table s × ((buffer : List ℕ) → length buffer < room → answerFor table s buffer ≡ BufferTooShort)
+      (s : List ℕ) × Bytes s × Salvageable table s × ((buffer : List ℕ) → length buffer < room → salvageAnswer table s buffer ≡ BufferTooShort)
 
 -- It is the length of the longest journal that can be accepted: 4 + 8 × 8,190 + 7.
 abbrev pub SalvageRoom : Type 0

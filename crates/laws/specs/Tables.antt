@@ -7,13 +7,13 @@ use Rattle.wire.specs.Encode.{Bytes}
 use Rattle.table.specs.declared.Answer.the-variants.{Passes}
 use Rattle.table.specs.declared.Table.{Table}
 use Rattle.table.specs.Table.{WellFormed}
-use Rattle.table.specs.Encode.{encode}
+use Rattle.table.specs.Encode.{tableBytes}
 use Rattle.table.specs.Check.{tableAnswer, tableIn}
 
 -- The bytes that pass are exactly the encodings of well-formed tables.
 abbrev pub PassesExactly : Type 0
-PassesExactly = (s : List ℕ) → Bytes s → (tableAnswer s ≡ Passes) ↔ ((t : Table) × WellFormed t × (s ≡ encode t))
+PassesExactly = (s : List ℕ) → Bytes s → (tableAnswer s ≡ Passes) ↔ ((t : Table) × WellFormed t × (s ≡ tableBytes t))
 
 -- A well-formed table's encoding passes, and that table is read from it.
 abbrev pub HoldsThatTable : Type 0
-HoldsThatTable = (s : List ℕ) (t : Table) → WellFormed t → s ≡ encode t → (tableAnswer s ≡ Passes) × (tableIn s ≡ t)
+HoldsThatTable = (s : List ℕ) (t : Table) → WellFormed t → s ≡ tableBytes t → (tableAnswer s ≡ Passes) × (tableIn s ≡ t)

@@ -33,14 +33,14 @@ use Rattle.machine.specs.declared.Gate.{Gate}
 use Rattle.machine.specs.declared.Gate.the-variants.{Open, Shut}
 use Rattle.machine.specs.declared.Step.{Step}
 use Rattle.machine.specs.declared.Step.the-variants.{Next, Refused}
-use Rattle.machine.specs.Verdict.{Watch, verdictBy, ruleOf, leftOf, stronger, strongest, largest}
+use Rattle.machine.specs.Verdict.{Watch, verdictBy, ruleOf, leftOf, stronger, strongest, largestOver}
 use Rattle.machine.specs.Machine.{start, kindOf, settled, entryInto, stateWatch, timerWatch, timerWatches, verdict, left, stateAfter, agrees}
 use Rattle.machine.specs.Machine.{lastChange, regionsAfter, after, gate, through, step, entered}
 use Rattle.machine.specs.Most.{most}
 use Rattle.machine.specs.Run.{mostLeft}
-use Rattle.machine.specs.Walk.{inTable, filled, completed, Walk, ended, stopped, took, onwards, walk, tooLong, ranFrom, recordsRun, opened, runOver}
+use Rattle.machine.specs.Walk.{inTable, filled, completed, Walk, ended, stopped, took, onwards, walk, tooLong, ranFrom, recordsRun, runOpened, runOver}
 use Rattle.machine.specs.AsTimers.{holdingFrom, holding, stateOf, timerRow, setRow, inRows, asTimers, withRegions, Alike}
-use Rattle.machine.specs.AsTimers.{SameRun, both-ran, both-too-long, both-refused, FewHolds, AsTimersJudgeAlike}
+use Rattle.machine.specs.AsTimers.{SameOverBytes, both-ran, both-too-long, both-refused, FewHolds, AsTimersJudgeAlike}
 use Rattle.machine.proofs.Watches.{Some, Each, four, each-timer, some-timer, region-after, watch-idle, stronger-idle}
 use Rattle.machine.proofs.Watches.{rule-by-state, left-by-state, rule-by-timers, left-by-timers, no-timer, no-regions, no-holds}
 
@@ -99,11 +99,11 @@ module _ (polled time : ℕ) (w : Watch) where
   Only = Each (λ x. (x ≡ w) ⊎ (x .hold ≡ 0))
 
   abbrev Tells : List Watch → Type 0
-  Tells ws = (strongest told ws ≡ told w) × (largest rest-of ws ≡ rest-of w)
+  Tells ws = (strongest told ws ≡ told w) × (largestOver rest-of ws ≡ rest-of w)
 
   -- They add nothing to w.
   beside : (ws : List Watch) → Only ws → Tells (w ∷ ws)
-  unfolding strongest largest
+  unfolding strongest largestOver
   beside [] each = (stronger-idle (told w), omega arith)
   beside (x ∷ ws) (inl is, each) =
       let more = beside ws each in
@@ -114,12 +114,12 @@ module _ (polled time : ℕ) (w : Watch) where
       (rw (idle .0) (more .0), omega arith)
 
   skipped : (x : Watch) (ws : List Watch) → x .hold ≡ 0 → Tells ws → Tells (x ∷ ws)
-  unfolding strongest largest
+  unfolding strongest largestOver
   skipped x ws none more = let idle = watch-idle polled time x none in (rw (idle .0) (more .0), omega arith)
 
   -- So they tell what w tells, if w is one of them or holds nothing itself.
   only : (ws : List Watch) → Only ws → Some (λ x. x ≡ w) ws ⊎ (w .hold ≡ 0) → Tells ws
-  unfolding strongest largest
+  unfolding strongest largestOver
   only [] each (inl some) = absurd some
   only [] each (inr none) = let idle = watch-idle polled time w none in (sym (idle .0), sym (idle .1))
   only (x ∷ ws) (inl is, each) there = rw is (beside ws each)
@@ -147,7 +147,7 @@ module _ (t : Table) where
   onwards-same place r (both-next alike) more = took-same r (more _ _ alike)
   onwards-same place r both-refuse more = both-stopped
 
-  ran-same : (input : ℕ) {w′ w : Walk} → SameWalk t w′ w → SameRun t (ranFrom input w′) (ranFrom input w)
+  ran-same : (input : ℕ) {w′ w : Walk} → SameWalk t w′ w → SameOverBytes t (ranFrom input w′) (ranFrom input w)
   ran-same input (both-ended alike) = both-ran alike
   ran-same input both-stopped = both-refused
 
@@ -392,19 +392,19 @@ module _ (t : Table) (good : WellFormed t) (few : FewHolds t) where
     since = λ k l own. four (λ j. entryInto (start (t .initial) input .regions) j ≡ 0) refl refl refl refl k (omega arith);
   }
 
-  run-same : (F : Form) (s : List ℕ) → SameRun t (runOver F t′ s) (runOver F t s)
-  unfolding runOver opened recordsRun asTimers
+  run-same : (F : Form) (s : List ℕ) → SameOverBytes t (runOver F t′ s) (runOver F t s)
+  unfolding runOver runOpened recordsRun asTimers
   run-same F s = sized (F .most <? length s)
     where
-      opening-same : (o : Opening) → SameRun t (opened F t′ s o) (opened F t s o)
+      opening-same : (o : Opening) → SameOverBytes t (runOpened F t′ s o) (runOpened F t s o)
       opening-same (opening.Refused refusal) = both-refused
       opening-same (opening.Input input) =
           ran-same t input (walk-same F (itemsOf F (inTable F t) s) (start (t .initial) input) (start (t .initial) input) (start-alike input))
 
       sized : (b : Bool) →
-          SameRun t
-          (if b then tooLong else opened F t′ s (openingOf F (t .inputs) s))
-          (if b then tooLong else opened F t s (openingOf F (t .inputs) s))
+          SameOverBytes t
+          (if b then tooLong else runOpened F t′ s (openingOf F (t .inputs) s))
+          (if b then tooLong else runOpened F t s (openingOf F (t .inputs) s))
       sized true = both-too-long
       sized false = opening-same (openingOf F (t .inputs) s)
 

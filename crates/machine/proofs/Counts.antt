@@ -14,8 +14,8 @@ use Rattle.machine.specs.declared.Machine.{Machine}
 use Rattle.machine.specs.declared.Step.the-variants.{Next}
 use Rattle.machine.specs.Machine.{left, stateAfter, after, step}
 use Rattle.records.specs.Record.{isTest}
-use Rattle.machine.specs.Most.{numberAt}
-use Rattle.machine.specs.Run.{Runs, ticks, ticksOf, stateFrom, moves, movesOf, mostLeft}
+use Rattle.machine.specs.Most.{numberOfRecord}
+use Rattle.machine.specs.Run.{Runs, ticks, ticksOf, stateFrom, moves, movesFrom, mostLeft}
 use Rattle.machine.proofs.Most.{kept, most-more}
 use Rattle.machine.proofs.Steps.{Taken, step-taken}
 
@@ -36,8 +36,8 @@ ticks-more [] r = omega arith
 ticks-more (x ∷ rs) r = omega (arith, ticks-more rs r)
 
 pub moves-more : (t : Table) (m m′ : Machine) (rs : List Record) (r : Record) → Runs t m rs m′ →
-    movesOf (m .state) (rs ++ r ∷ []) ≡ movesOf (m .state) rs + moves (m′ .state) r
-unfolding movesOf
+    movesFrom (m .state) (rs ++ r ∷ []) ≡ movesFrom (m .state) rs + moves (m′ .state) r
+unfolding movesFrom
 moves-more t m m′ [] r same = rw same (omega arith)
 moves-more t m m′ (x ∷ rs) r (taken, more) =
     let first = state-from t m x (after t m x) taken in
@@ -49,9 +49,9 @@ kept-is t m m′ [] same = same
 kept-is t m m′ (r ∷ rs) (taken, more) = kept-is t (after t m r) m′ rs more
 
 pub left-more : (t : Table) (m m′ : Machine) (rs : List Record) (r : Record) → Runs t m rs m′ →
-    mostLeft t m (rs ++ r ∷ []) ≡ max (mostLeft t m rs) (numberAt (after t) isTest (left t) m′ r)
+    mostLeft t m (rs ++ r ∷ []) ≡ max (mostLeft t m rs) (numberOfRecord (after t) isTest (left t) m′ r)
 left-more t m m′ rs r runs =
-    most-more (after t) isTest (left t) m rs r ∙ ap (λ x. max (mostLeft t m rs) (numberAt (after t) isTest (left t) x r)) (kept-is t m m′ rs runs)
+    most-more (after t) isTest (left t) m rs r ∙ ap (λ x. max (mostLeft t m rs) (numberOfRecord (after t) isTest (left t) x r)) (kept-is t m m′ rs runs)
 
 one-tick : (r : Record) → ticks r ≤ 1
 one-tick (Change time input) = omega arith
@@ -73,7 +73,7 @@ unfolding ticksOf
 few-ticks [] = omega arith
 few-ticks (r ∷ rs) = omega (arith, one-tick r, few-ticks rs)
 
-pub few-moves : (q : ℕ) (rs : List Record) → movesOf q rs ≤ length rs
-unfolding movesOf
+pub few-moves : (q : ℕ) (rs : List Record) → movesFrom q rs ≤ length rs
+unfolding movesFrom
 few-moves q [] = omega arith
 few-moves q (r ∷ rs) = omega (arith, one-move q r, few-moves (stateFrom q r) rs)

@@ -9,7 +9,7 @@ use Rattle.records.specs.declared.Record.{Record}
 use Rattle.records.specs.declared.Record.the-variants.{Change, Poll, Test, Tick, End}
 use Rattle.records.specs.Record.{timeOf, latest}
 use Rattle.records.specs.Form.{Form, clock, numbersBelow}
-use Rattle.records.specs.Encode.{Writable, Inner}
+use Rattle.records.specs.Encode.{WritableRecord, Inner}
 use Rattle.records.proofs.Says.{all-kept}
 use Rattle.machine.specs.declared.Machine.{Machine}
 use Rattle.machine.specs.Machine.{start, after}
@@ -47,7 +47,7 @@ pub record TellsGaps (F : Form) : Type 0 where
 -- The same records can be written in it, if what was allowed still is.
 module _ (F G : Form) (tells : TellsGaps G) (allows allows′ : Record → Bool) (timely : (r : Record) → allows r ≡ true → timeOf r ≤ latest)
     (still : (r : Record) → allows r ≡ true → allows′ r ≡ true) (most : ℕ) (few : most < clock) where
-  writable : (before : ℕ) (r : Record) → Writable F allows before r → before ≤ timeOf r → timeOf r ≤ before + most → Writable G allows′ before r
+  writable : (before : ℕ) (r : Record) → WritableRecord F allows before r → before ≤ timeOf r → timeOf r ≤ before + most → WritableRecord G allows′ before r
   writable before r w low high = record {
     in-range = still r (w .in-range);
     whole = all-kept G (tells .valued) r;

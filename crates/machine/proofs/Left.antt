@@ -11,10 +11,10 @@ use Rattle.table.specs.Table.{member}
 use Rattle.machine.specs.declared.Machine.{Machine}
 use Rattle.machine.specs.declared.Rule.{Rule}
 use Rattle.machine.specs.declared.Rule.the-variants.{Running, Passed, NoHold}
-use Rattle.machine.specs.Verdict.{verdictBy, leftBy, Watch, ruleOf, leftOf, stronger, strongest, largest}
+use Rattle.machine.specs.Verdict.{verdictBy, leftBy, Watch, ruleOf, leftOf, stronger, strongest, largestOver}
 use Rattle.machine.specs.Machine.{start, watches, rule, verdict, left, after}
 use Rattle.records.specs.Record.{isTest}
-use Rattle.machine.specs.Left.{HeldIsLeft, UntilFree, LeftUntilFree, LeftIsMost}
+use Rattle.machine.specs.Left.{HeldIsLeft, UntilFree, LeftUntilFree, LeftOfRunIsMost}
 use Rattle.machine.proofs.Before.{EnteredBy, first-entered, entered-by}
 use Rattle.machine.proofs.Most.{is-most}
 use Rattle.machine.proofs.Rules.{left-is}
@@ -29,10 +29,10 @@ passed-frees Passed = refl
 passed-frees NoHold = refl
 
 held-by : (polled time : ℕ) (ws : List Watch) →
-    (verdictBy (strongest (ruleOf polled time) ws) ≡ 0) ↔ (0 < largest (leftOf polled time) ws)
-unfolding strongest largest
+    (verdictBy (strongest (ruleOf polled time) ws) ≡ 0) ↔ (0 < largestOver (leftOf polled time) ws)
+unfolding strongest largestOver
 held-by polled time [] = (λ e. absurd (omega arith), λ l. absurd (omega arith))
-held-by polled time (w ∷ ws) = go (ruleOf polled time w) (strongest (ruleOf polled time) ws) (largest (leftOf polled time) ws) (held-by polled time ws)
+held-by polled time (w ∷ ws) = go (ruleOf polled time w) (strongest (ruleOf polled time) ws) (largestOver (leftOf polled time) ws) (held-by polled time ws)
   where
     go : (x y : Rule) (n : ℕ) → (verdictBy y ≡ 0) ↔ (0 < n) → (verdictBy (stronger x y) ≡ 0) ↔ (0 < max (leftBy (w .hold) (w .since) time x) n)
     go Running y n rest = (λ e. omega arith, λ l. refl)
@@ -65,8 +65,8 @@ watch-falls polled time d w order =
     go false = omega arith
 
 largest-falls : (polled time d : ℕ) (ws : List Watch) → Each (λ w. w .since ≤ time) ws →
-    largest (leftOf polled (time + d)) ws ≡ largest (leftOf polled time) ws - d
-unfolding largest
+    largestOver (leftOf polled (time + d)) ws ≡ largestOver (leftOf polled time) ws - d
+unfolding largestOver
 largest-falls polled time d [] h = omega arith
 largest-falls polled time d (w ∷ ws) (h, each) = omega (arith, watch-falls polled time d w h, largest-falls polled time d ws each)
 
@@ -85,5 +85,5 @@ pub left-until-free : LeftUntilFree
 left-until-free t initial input rs last run before time at =
     until-free t before time (entered-by t isTest (left t) (start initial input) rs last (first-entered initial input) run before time at)
 
-pub left-is-most : LeftIsMost
+pub left-is-most : LeftOfRunIsMost
 left-is-most t m rs = is-most (after t) isTest (left t) m rs

@@ -7,7 +7,7 @@ use lib.ListN.{getD}
 use Rattle.table.specs.declared.Table.{Table}
 use Rattle.table.specs.Table.{holdOf, delayedOf, nextOf, WellFormed}
 use Rattle.machine.specs.declared.Machine.{Machine}
-use Rattle.machine.specs.Verdict.{leftOf, largest}
+use Rattle.machine.specs.Verdict.{leftOf, largestOver}
 use Rattle.machine.specs.Machine.{stateWatch, timerWatches, left}
 use Rattle.machine.specs.Lent.{Lent, Usable}
 use Rattle.machine.proofs.Steps.{Fits}
@@ -55,5 +55,5 @@ module _ {t : Table} {bound states inputs timers : ℕ} {next hold delayed timin
     pub lent-left : timers ≡ 0 → {x : ℕ} → x ≡ leftOf (m .polled) time (stateWatch t m) → x ≡ left t m time
     lent-left none is = is ∙ sym (left-by-state t m time (lent .no-timers none))
 
-    pub lent-left-timers : (timers ≡ 0 → ⊥) → {x : ℕ} → x ≡ largest (leftOf (m .polled) time) (timerWatches t m) → x ≡ left t m time
+    pub lent-left-timers : (timers ≡ 0 → ⊥) → {x : ℕ} → x ≡ largestOver (leftOf (m .polled) time) (timerWatches t m) → x ≡ left t m time
     lent-left-timers some is = is ∙ sym (left-by-timers t m time (lent .no-holds some))

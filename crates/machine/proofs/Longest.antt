@@ -9,15 +9,15 @@ use Rattle.records.specs.declared.Record.the-variants.{Change, Poll, Test, Tick
 use Rattle.records.specs.Record.{isTick}
 use Rattle.machine.specs.declared.Machine.{Machine}
 use Rattle.machine.specs.Machine.{start, after}
-use Rattle.machine.specs.Most.{numberAt, most}
+use Rattle.machine.specs.Most.{numberOfRecord, most}
 use Rattle.machine.specs.Run.{Runs, startFrom, cycleLength}
-use Rattle.machine.specs.Longest.{LongestIsCycle}
+use Rattle.machine.specs.Longest.{LongestOfRunIsCycle}
 use Rattle.machine.proofs.Steps.{Taken, step-taken}
 use Rattle.machine.proofs.Most.{is-most}
 
 -- What a record completes, by the records alone and by the machine.
 abbrev completes : ℕ → Record → ℕ
-completes begun r = numberAt startFrom isTick cycleLength begun r
+completes begun r = numberOfRecord startFrom isTick cycleLength begun r
 
 abbrev longestFrom : ℕ → List Record → ℕ
 longestFrom begun rs = most startFrom isTick cycleLength begun rs
@@ -59,7 +59,7 @@ module _ (t : Table) where
       let rest = rw (starts t m r) at (all-in-cycle (after t m r) last rs more) in
       omega (arith, rest, in-cycle t m r (step-taken t m r (after t m r) taken .0))
 
-pub longest-is-cycle : LongestIsCycle
+pub longest-is-cycle : LongestOfRunIsCycle
 longest-is-cycle t initial input rs last runs =
     let is : last .longest ≡ longestFrom 0 rs = omega (arith, longest-is t (start initial input) last rs runs) in
     rw is (record { in-bound = all-in-cycle t (start initial input) last rs runs; most = is-most startFrom isTick cycleLength 0 rs })

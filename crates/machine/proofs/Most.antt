@@ -9,11 +9,11 @@ use borrow.Author.Tests.{ltb-true, ltb-false}
 use Rattle.wire.specs.Choice.{_<?_, if_then_else_}
 use Rattle.records.specs.declared.Record.{Record}
 use Rattle.records.specs.Record.{timeOf}
-use Rattle.machine.specs.Most.{numberAt, most, Has, MostOf}
+use Rattle.machine.specs.Most.{numberOfRecord, most, Has, MostOf}
 
 module _ {S : Type 0} (next : S → Record → S) (has : Record → Bool) (number : S → ℕ → ℕ) where
   abbrev at : S → Record → ℕ
-  at s r = numberAt next has number s r
+  at s r = numberOfRecord next has number s r
 
   abbrev mostOf : S → List Record → ℕ
   mostOf s rs = most next has number s rs

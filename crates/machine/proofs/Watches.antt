@@ -15,7 +15,7 @@ use Rattle.table.specs.Table.{longestHold, holdOf, delayedOf, lengthOf, regionO
 use Rattle.machine.specs.declared.Machine.{Machine}
 use Rattle.machine.specs.declared.Rule.{Rule}
 use Rattle.machine.specs.declared.Rule.the-variants.{Running, Passed, NoHold}
-use Rattle.machine.specs.Verdict.{ruleBy, Watch, ruleOf, leftOf, stronger, strongest, largest}
+use Rattle.machine.specs.Verdict.{ruleBy, Watch, ruleOf, leftOf, stronger, strongest, largestOver}
 use Rattle.machine.specs.Machine.{entryInto, stateWatch, timerWatch, timerWatches, watches, rule, left, stateAfter, entered, regionsAfter}
 use Rattle.machine.specs.Lent.{TimersFit}
 use Rattle.machine.proofs.Rules.{no-hold, left-is}
@@ -147,8 +147,8 @@ module _ (polled time : ℕ) where
   pub watch-idle : (w : Watch) → w .hold ≡ 0 → (ruleOf polled time w ≡ NoHold) × (leftOf polled time w ≡ 0)
   watch-idle w h = (sym (no-hold (w .hold) (w .delayed) polled (w .since) time h), left-is (w .hold) (w .delayed) polled (w .since) time ∙ rw h refl)
 
-  all-idle : (ws : List Watch) → Each (λ w. w .hold ≡ 0) ws → (strongest (ruleOf polled time) ws ≡ NoHold) × (largest (leftOf polled time) ws ≡ 0)
-  unfolding strongest largest
+  all-idle : (ws : List Watch) → Each (λ w. w .hold ≡ 0) ws → (strongest (ruleOf polled time) ws ≡ NoHold) × (largestOver (leftOf polled time) ws ≡ 0)
+  unfolding strongest largestOver
   all-idle [] h = (refl, refl)
   all-idle (w ∷ ws) (h, each) =
       let first = watch-idle w h in
@@ -174,7 +174,7 @@ module _ (t : Table) (m : Machine) (time : ℕ) where
     rule-by-state = ap (stronger (ruleOf (m .polled) time (stateWatch t m))) (all-idle (m .polled) time (timerWatches t m) timers-idle .0) ∙ stronger-idle _
 
     pub left-by-state : left t m time ≡ leftOf (m .polled) time (stateWatch t m)
-    unfolding left largest
+    unfolding left largestOver
     left-by-state = let rest = all-idle (m .polled) time (timerWatches t m) timers-idle .1 in omega arith
 
     pub regions-stay : regionsAfter t m time ≡ m .regions
@@ -186,8 +186,8 @@ module _ (t : Table) (m : Machine) (time : ℕ) where
     unfolding rule strongest
     rule-by-timers = rw (watch-idle (m .polled) time (stateWatch t m) (none (m .state)) .0) refl
 
-    pub left-by-timers : left t m time ≡ largest (leftOf (m .polled) time) (timerWatches t m)
-    unfolding left largest
+    pub left-by-timers : left t m time ≡ largestOver (leftOf (m .polled) time) (timerWatches t m)
+    unfolding left largestOver
     left-by-timers = let first = watch-idle (m .polled) time (stateWatch t m) (none (m .state)) .1 in omega arith
 
 -- ---- A well-formed table has holds or timers

@@ -6,7 +6,7 @@ use lib.ListN.{length, getD}
 use Rattle.wire.specs.Choice.{_<?_, _=?_, if_then_else_}
 use Rattle.table.specs.declared.Table.{Table}
 use Rattle.table.specs.Table.{mostTimers, holdOf, delayedOf, inRegion, WellFormed}
-use Rattle.table.specs.Entries.{filled, zeros}
+use Rattle.table.specs.Entries.{filledTo, zeros}
 use Rattle.records.specs.declared.Record.{Record}
 use Rattle.records.specs.declared.Refusal.{Refusal}
 use Rattle.records.specs.Form.{Form}
@@ -14,7 +14,7 @@ use Rattle.machine.specs.declared.Regions.{Regions}
 use Rattle.machine.specs.declared.Machine.{Machine}
 use Rattle.machine.specs.Machine.{machine, start, entryInto}
 use Rattle.machine.specs.Run.{mostLeft}
-use Rattle.machine.specs.Walk.{Run, ran, tooLong, refused, runOver}
+use Rattle.machine.specs.Walk.{RunOverBytes, ran, tooLong, refused, runOver}
 
 -- Those of the states q, q + 1, .., q + n - 1 that have a hold.
 unfoldable pub holdingFrom : Table → (n q : ℕ) → List ℕ
@@ -57,8 +57,8 @@ asTimers t =
       hold = zeros 32;
       delayed = zeros 32;
       timers = n;
-      timing = filled (inRows 2 (timerRow t)) (2 * n) (zeros 8);
-      sets = filled (inRows n (setRow t)) (t .states * n) (zeros 128);
+      timing = filledTo (inRows 2 (timerRow t)) (2 * n) (zeros 8);
+      sets = filledTo (inRows n (setRow t)) (t .states * n) (zeros 128);
     }
 
 -- ---- The same run
@@ -74,10 +74,10 @@ pub record Alike (t : Table) (m′ m : Machine) : Type 0 where
   pub since : (k : ℕ) → k < length (holding t) → stateOf t k ≡ m .state → entryInto (m′ .regions) k ≡ m .entry
 
 -- Both took the same records, and the last machines are alike; both are too long; or both refuse alike.
-pub data SameRun (t : Table) : Run → Run → Type 0 where
-  both-ran : {input : ℕ} {taken : List Record} {last′ last : Machine} → Alike t last′ last → SameRun t (ran input taken last′) (ran input taken last)
-  both-too-long : SameRun t tooLong tooLong
-  both-refused : {refusal : Refusal} {place : ℕ} → SameRun t (refused refusal place) (refused refusal place)
+pub data SameOverBytes (t : Table) : RunOverBytes → RunOverBytes → Type 0 where
+  both-ran : {input : ℕ} {taken : List Record} {last′ last : Machine} → Alike t last′ last → SameOverBytes t (ran input taken last′) (ran input taken last)
+  both-too-long : SameOverBytes t tooLong tooLong
+  both-refused : {refusal : Refusal} {place : ℕ} → SameOverBytes t (refused refusal place) (refused refusal place)
 
 -- A table with holds, of which there are from one to four.
 pub record FewHolds (t : Table) : Type 0 where
@@ -91,7 +91,7 @@ pub record JudgesAlike (t : Table) : Type 0 where
   pub well-formed : WellFormed (asTimers t)
   pub has-timers : 1 ≤ asTimers t .timers
   pub one-state : (k q : ℕ) → k < length (holding t) → inRegion (asTimers t) k q ≡ (q =? stateOf t k)
-  pub run-same : (F : Form) (s : List ℕ) → SameRun t (runOver F (asTimers t) s) (runOver F t s)
+  pub run-same : (F : Form) (s : List ℕ) → SameOverBytes t (runOver F (asTimers t) s) (runOver F t s)
   pub left-same : (input : ℕ) (rs : List Record) → mostLeft (asTimers t) (start (t .initial) input) rs ≡ mostLeft t (start (t .initial) input) rs
 
 abbrev pub AsTimersJudgeAlike : Type 0

@@ -25,5 +25,5 @@ LeftUntilFree = (t : Table) (initial input : ℕ) (rs : List Record) (last : Mac
     (before : Machine) (time : ℕ) → Has (after t) isTest (left t) (start initial input) rs before time → UntilFree t before time
 
 -- Over a run no test has more than `mostLeft`, some test has it if there was one, and else it is 0.
-abbrev pub LeftIsMost : Type 0
-LeftIsMost = (t : Table) (m : Machine) (rs : List Record) → MostOf (after t) isTest (left t) m rs (mostLeft t m rs)
+abbrev pub LeftOfRunIsMost : Type 0
+LeftOfRunIsMost = (t : Table) (m : Machine) (rs : List Record) → MostOf (after t) isTest (left t) m rs (mostLeft t m rs)

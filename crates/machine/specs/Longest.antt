@@ -14,5 +14,5 @@ pub record LongestOf (t : Table) (rs : List Record) (longest : ℕ) : Type 0 whe
   pub in-bound : longest ≤ t .bound
   pub most : MostOf startFrom isTick cycleLength 0 rs longest
 
-abbrev pub LongestIsCycle : Type 0
-LongestIsCycle = (t : Table) (initial input : ℕ) (rs : List Record) (last : Machine) → Runs t (start initial input) rs last → LongestOf t rs (last .longest)
+abbrev pub LongestOfRunIsCycle : Type 0
+LongestOfRunIsCycle = (t : Table) (initial input : ℕ) (rs : List Record) (last : Machine) → Runs t (start initial input) rs last → LongestOf t rs (last .longest)

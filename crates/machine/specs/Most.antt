@@ -10,13 +10,13 @@ use Rattle.records.specs.Record.{timeOf}
 
 -- What is kept from record to record, which records have a number, and the number by what was kept before the record and its time.
 module _ {S : Type 0} (next : S → Record → S) (has : Record → Bool) (number : S → ℕ → ℕ) where
-  abbrev pub numberAt : S → Record → ℕ
-  numberAt s r = if has r then number s (timeOf r) else 0
+  abbrev pub numberOfRecord : S → Record → ℕ
+  numberOfRecord s r = if has r then number s (timeOf r) else 0
 
   -- 0 if there is none.
   unfoldable pub most : S → List Record → ℕ
   most s [] = 0
-  most s (r ∷ rs) = max (numberAt s r) (most (next s r) rs)
+  most s (r ∷ rs) = max (numberOfRecord s r) (most (next s r) rs)
 
   -- A record that has one, by what was kept before it and its time.
   abbrev pub Has : S → List Record → S → ℕ → Type 0

@@ -69,6 +69,6 @@ unfoldable pub strongest : (Watch → Rule) → List Watch → Rule
 strongest by [] = NoHold
 strongest by (w ∷ ws) = stronger (by w) (strongest by ws)
 
-unfoldable pub largest : (Watch → ℕ) → List Watch → ℕ
-largest by [] = 0
-largest by (w ∷ ws) = max (by w) (largest by ws)
+unfoldable pub largestOver : (Watch → ℕ) → List Watch → ℕ
+largestOver by [] = 0
+largestOver by (w ∷ ws) = max (by w) (largestOver by ws)

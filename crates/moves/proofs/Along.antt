@@ -14,7 +14,7 @@ use Rattle.wire.proofs.Placed.{placed-after}
 use Rattle.sets.specs.Sets.{member, largest}
 use Rattle.moves.specs.declared.rounds.Way.{Way}
 use Rattle.moves.specs.Moves.{worst}
-use Rattle.moves.specs.Walks.{Steps, Worst, aheadIn, pathIn, inputIn, wholePath}
+use Rattle.moves.specs.Walks.{Steps, WorstMember, aheadIn, pathIn, inputIn, wholePath}
 use Rattle.moves.proofs.Worsts.{is-largest, is-worst}
 
 module _ {next : ℕ → ℕ → ℕ} {way : Way} (steps : Steps next way) (sums : List ℕ) (q : ℕ) where
@@ -22,7 +22,7 @@ module _ {next : ℕ → ℕ → ℕ} {way : Way} (steps : Steps next way) (sums
   unfolding pathIn
   none-left left e = rw e
 
-  module _ (left : ℕ) (some : 0 < left) {sum at : ℕ} (found : Worst (way .inputs) (aheadIn next way sums ((left - 1) * way .states) q) sum at) where
+  module _ (left : ℕ) (some : 0 < left) {sum at : ℕ} (found : WorstMember (way .inputs) (aheadIn next way sums ((left - 1) * way .states) q) sum at) where
     abbrev ahead : ℕ → ℕ
     ahead = aheadIn next way sums ((left - 1) * way .states) q
 

@@ -21,7 +21,7 @@ use Rattle.reaction.specs.Reaction.{firstLeaving, forHolds}
 use Rattle.reaction.proofs.Entry.{has-holds, has-timers}
 use Rattle.reaction.proofs.Meaning.{AllExist, known}
 use Rattle.moves.specs.declared.Judged.the-variants.{Passes, TableRefused, HasTimers, UnknownState, UnknownInput, TooManyMoves, LeavesStates, NoRoom}
-use Rattle.moves.specs.Answer.{passes?}
+use Rattle.moves.specs.Answer.{judgedPasses?}
 use Rattle.moves.specs.Moves.{judge, judgeOf}
 
 pub record Fits (t : Table) (P A n sums path : ℕ) : Type 0 where
@@ -33,14 +33,14 @@ pub record Fits (t : Table) (P A n sums path : ℕ) : Type 0 where
   pub path-fits : 2 * n - 1 ≤ path
 
 module _ (t : Table) (table : WellFormed t) (none : t .timers ≡ 0) (P A n sums path : ℕ) where
-  judged : passes? (judge t P A n sums path) ≡ true → Fits t P A n sums path
+  judged : judgedPasses? (judge t P A n sums path) ≡ true → Fits t P A n sums path
   unfolding judge
   judged = go (P <? 2 ^ t .states) refl (A <? 2 ^ t .inputs) refl (32 <? n) refl (firstLeaving t P A <? t .states * t .inputs) refl
       (sums <? n * t .states) refl (path <? 2 * n - 1) refl
     where
       go : (a : Bool) → (P <? 2 ^ t .states) ≡ a → (b : Bool) → (A <? 2 ^ t .inputs) ≡ b → (c : Bool) → (32 <? n) ≡ c →
           (d : Bool) → (firstLeaving t P A <? t .states * t .inputs) ≡ d → (e : Bool) → (sums <? n * t .states) ≡ e → (f : Bool) → (path <? 2 * n - 1) ≡ f →
-          passes?
+          judgedPasses?
           (if not a then UnknownState
           else if not b then UnknownInput
           else if c then TooManyMoves
@@ -63,11 +63,11 @@ module _ (t : Table) (table : WellFormed t) (none : t .timers ≡ 0) (P A n sums
       }
 
 module _ (s : List ℕ) (P A n sums path : ℕ) where
-  pub table-passed : passes? (judgeOf s P A n sums path) ≡ true → tableAnswer s ≡ table.Passes
+  pub table-passed : judgedPasses? (judgeOf s P A n sums path) ≡ true → tableAnswer s ≡ table.Passes
   unfolding judgeOf underTable
   table-passed e = decided (tableAnswer s) (λ p. p) (λ r other. never (rw r at e))
 
-  pub fits : passes? (judgeOf s P A n sums path) ≡ true → Fits (tableIn s) P A n sums path
+  pub fits : judgedPasses? (judgeOf s P A n sums path) ≡ true → Fits (tableIn s) P A n sums path
   unfolding judgeOf
   fits e = go (eq-zero-or-pos (t .timers)) (rw under at e)
     where
@@ -77,6 +77,6 @@ module _ (s : List ℕ) (P A n sums path : ℕ) where
       under : underTable TableRefused (forHolds HasTimers (λ t. judge t P A n sums path)) s ≡ forHolds HasTimers (λ t. judge t P A n sums path) t
       under = under-passes TableRefused _ s (table-passed e)
 
-      go : (t .timers ≡ 0) ⊎ (1 ≤ t .timers) → passes? (forHolds HasTimers (λ t. judge t P A n sums path) t) ≡ true → Fits t P A n sums path
+      go : (t .timers ≡ 0) ⊎ (1 ≤ t .timers) → judgedPasses? (forHolds HasTimers (λ t. judge t P A n sums path) t) ≡ true → Fits t P A n sums path
       go (inl none) p = judged t (well-formed s (table-passed e)) none P A n sums path (rw (has-holds HasTimers (λ t. judge t P A n sums path) t none) at p)
       go (inr some) p = never (rw (has-timers HasTimers (λ t. judge t P A n sums path) t (λ z. omega arith)) at p)

@@ -11,7 +11,7 @@ use Rattle.moves.proofs.Judged as JudgedT
 use Rattle.moves.specs.declared.Judged.{Judged}
 use Rattle.moves.specs.declared.Judged.the-variants.{Passes, TableRefused, HasTimers, UnknownState, UnknownInput, TooManyMoves, LeavesStates, NoRoom}
 use Rattle.moves.specs.declared.Answer.the-variants.{Reacts, Refused}
-use Rattle.moves.specs.Answer.{passes?}
+use Rattle.moves.specs.Answer.{judgedPasses?}
 use Rattle.moves.specs.Moves.{judgeOf, reactionOver, sumsOver, pathOver, movesOf, sumsAfter, pathAfter}
 
 abbrev Passed : Judged → Type 0
@@ -30,15 +30,15 @@ let-pass {x = TooManyMoves} is h = absurd (miss (0 ∷ []) 5 tt h)
 let-pass {x = LeavesStates at} is h = absurd (miss (0 ∷ []) 6 tt h)
 let-pass {x = NoRoom} is h = absurd (miss (0 ∷ []) 7 tt h)
 
-pub fails : {j x : Judged} → x ≡ j → TurnedDown x → passes? j ≡ false
+pub fails : {j x : Judged} → x ≡ j → TurnedDown x → judgedPasses? j ≡ false
 fails {x = Passes} is h = absurd (miss (1 ∷ 2 ∷ 3 ∷ 4 ∷ 5 ∷ 6 ∷ 7 ∷ []) 0 tt h)
-fails {x = TableRefused refusal} is h = ap passes? (sym is)
-fails {x = HasTimers} is h = ap passes? (sym is)
-fails {x = UnknownState} is h = ap passes? (sym is)
-fails {x = UnknownInput} is h = ap passes? (sym is)
-fails {x = TooManyMoves} is h = ap passes? (sym is)
-fails {x = LeavesStates at} is h = ap passes? (sym is)
-fails {x = NoRoom} is h = ap passes? (sym is)
+fails {x = TableRefused refusal} is h = ap judgedPasses? (sym is)
+fails {x = HasTimers} is h = ap judgedPasses? (sym is)
+fails {x = UnknownState} is h = ap judgedPasses? (sym is)
+fails {x = UnknownInput} is h = ap judgedPasses? (sym is)
+fails {x = TooManyMoves} is h = ap judgedPasses? (sym is)
+fails {x = LeavesStates at} is h = ap judgedPasses? (sym is)
+fails {x = NoRoom} is h = ap judgedPasses? (sym is)
 
 module _ (s : List ℕ) (P A n : ℕ) (sums path : List ℕ) where
   pub turned-down : {x : Judged} → x ≡ judgeOf s P A n (length sums) (length path) → TurnedDown x →

@@ -16,7 +16,7 @@ use Rattle.sets.proofs.Members.{largest-reached, Reaching}
 use Rattle.table.specs.Entries.{values}
 use Rattle.table.proofs.Values.{length-values, getD-values, getD-zeros, Filling}
 use Rattle.moves.specs.declared.rounds.Way.{Way}
-use Rattle.moves.specs.Walks.{Steps, Worst, aheadIn, roundIn, rowIn, sumIn, sumFrom, heaviest, SumsFit}
+use Rattle.moves.specs.Walks.{Steps, WorstMember, aheadIn, roundIn, rowIn, sumIn, sumFrom, heaviest, SumsFit}
 use Rattle.moves.proofs.Worsts.{is-largest}
 
 -- ---- The largest of several numbers
@@ -102,7 +102,7 @@ module _ {next : ℕ → ℕ → ℕ} {way : Way} (steps : Steps next way) (weig
   in-first-row sums k some low = rw (ne-eqb (weigh (k % Q)) 0 some, lt-ltb k Q low)
 
   pub in-later-row : (sums : List ℕ) (k : ℕ) → (weigh (k % Q) ≡ 0 → ⊥) → Q ≤ k →
-      {sum at : ℕ} → Worst (way .inputs) (aheadIn next way sums (k - k % Q - Q) (k % Q)) sum at → weigh (k % Q) + sum ≡ sumFrom next way weigh sums k
+      {sum at : ℕ} → WorstMember (way .inputs) (aheadIn next way sums (k - k % Q - Q) (k % Q)) sum at → weigh (k % Q) + sum ≡ sumFrom next way weigh sums k
   unfolding sumFrom
   in-later-row sums k some high found = rw (ne-eqb (weigh (k % Q)) 0 some, le-ltb k Q high) (ap (λ x. weigh (k % Q) + x) (is-largest (steps .inputs) found))
 
@@ -165,7 +165,7 @@ module _ {next : ℕ → ℕ → ℕ} {way : Way} (steps : Steps next way) (weig
 
   -- The sum ahead is small enough to be added.
   pub worst-fits : {sums : List ℕ} {k : ℕ} → SumsFit way weigh sums k → Q ≤ k →
-      {sum at : ℕ} → Worst (way .inputs) (aheadIn next way sums (k - k % Q - Q) (k % Q)) sum at → sum ≤ 32 * heaviest
+      {sum at : ℕ} → WorstMember (way .inputs) (aheadIn next way sums (k - k % Q - Q) (k % Q)) sum at → sum ≤ 32 * heaviest
   worst-fits {sums} {k} fits high {sum} {at} found =
       ⊎-elim (λ z. omega arith)
       (λ r.

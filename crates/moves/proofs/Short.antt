@@ -7,13 +7,13 @@ use lib.ListN.{length}
 use Rattle.wire.specs.Choice.{_=?_, if_then_else_}
 use Rattle.table.specs.declared.Table.{Table}
 use Rattle.table.specs.Table.{nextOf}
-use Rattle.moves.specs.Moves.{most, worstInput, sumsOf, pathFrom, largestSum, worstStart, worstPath}
+use Rattle.moves.specs.Moves.{mostAhead, worstInput, sumsOf, pathFrom, largestSum, worstStart, worstPath}
 
 module _ (t : Table) (P A N : ℕ) where
   path-short : (k q : ℕ) → length (pathFrom t P A N k q) ≤ k + k + 1
   unfolding pathFrom
   path-short zero q = omega arith
-  path-short (suc k) q = go (most t P A N (sumsOf t P A N (suc k)) q =? 0) (path-short k)
+  path-short (suc k) q = go (mostAhead t P A N (sumsOf t P A N (suc k)) q =? 0) (path-short k)
     where
       to : ℕ
       to = nextOf t q (worstInput t P A N (sumsOf t P A N (suc k)) q)

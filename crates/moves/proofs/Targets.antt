@@ -7,24 +7,24 @@ use native.Mathlib.Omega.{arith}
 use Rattle.sets.specs.Sets.{member}
 use Rattle.reaction.specs.Meaning.{Pairs, NextStates}
 use Rattle.reaction.specs.Walks.{Walkable}
-use Rattle.moves.specs.Walks.{Times, Closed}
+use Rattle.moves.specs.Walks.{Times, StaysInside}
 
 -- Next states stay inside the set that they come of.
 module _ {next : ℕ → ℕ → ℕ} {M : ℕ} (A : ℕ) {N : ℕ} (states : NextStates next M (Pairs M A) N) where
   inside : (q : ℕ) → member N q ≡ true → member M q ≡ true
   inside q m = let c = states .only q m in rw (c .is) at (states .inside (c .state) (c .input) (c .pair))
 
-  closed-again : Closed next N A
+  closed-again : StaysInside next N A
   closed-again p a h = states .has p a (inside p (h .0), h .1)
 
 -- After k of the moves.
 pub record Moved (next : ℕ → ℕ → ℕ) (width P A moves k set : ℕ) : Type 0 where
   pub low : k ≤ moves
   pub times : Times next P A k set
-  pub closed : Closed next set A
+  pub closed : StaysInside next set A
   pub walkable : Walkable next width set A
 
-pub not-moved : {next : ℕ → ℕ → ℕ} {width P A : ℕ} (moves : ℕ) → Walkable next width P A → Closed next P A → Moved next width P A moves 0 P
+pub not-moved : {next : ℕ → ℕ → ℕ} {width P A : ℕ} (moves : ℕ) → Walkable next width P A → StaysInside next P A → Moved next width P A moves 0 P
 not-moved moves walkable closed = record { low = omega arith; times = refl; closed = closed; walkable = walkable }
 
 module _ {next : ℕ → ℕ → ℕ} {width P A moves k set : ℕ} (inv : Moved next width P A moves k set) where

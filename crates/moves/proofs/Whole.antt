@@ -24,7 +24,7 @@ use Rattle.reaction.proofs.Meaning.{AllExist, target-has, target-only, same-tar
 use Rattle.reaction.proofs.Findings.{same-weight, weight-at-most, weight-at-least}
 use Rattle.moves.specs.declared.rounds.Way.{Way}
 use Rattle.moves.specs.Moves.{nextTimes, worst, onPath, round, sumsOf, rows, pathFrom, largestSum, worstStart, worstPath, reactionOver, sumsOver, pathOver}
-use Rattle.moves.specs.Walks.{Times, Steps, Weighs, Worst, aheadIn, roundIn, rowIn, sumIn, pathIn, wholePath, heaviest}
+use Rattle.moves.specs.Walks.{Times, Steps, Weighs, WorstMember, aheadIn, roundIn, rowIn, sumIn, pathIn, wholePath, heaviest}
 use Rattle.moves.proofs.Rows.{same-largest, largest-at-most, row-at-most}
 use Rattle.moves.proofs.Worsts.{is-largest, is-worst, worst-in}
 use Rattle.moves.proofs.Smallest.{worst-found}
@@ -215,7 +215,7 @@ module _ {t : Table} {P A : ℕ} (all : AllExist t P A) (N n : ℕ) (after : Lis
 
     -- The worst start, which was looked for in the last row.
     module _ (outside : ℕ) (rest : Difference P N outside) (some : 0 < n) {sum at : ℕ}
-        (found : Worst outside (λ q. getD after ((n - 1) * t .states + q) 0) sum at) where
+        (found : WorstMember outside (λ q. getD after ((n - 1) * t .states + q) 0) sum at) where
       in-states : (q : ℕ) → member outside q ≡ true → q < t .states
       in-states q m = all .states q (both (member P q) _ (sym (rest q) ∙ m) .0)
 

@@ -14,7 +14,7 @@ use Rattle.sets.proofs.Walk.{Walk, Walked, begins, none-walked, all-walked, goe
 use Rattle.reaction.proofs.First.{first-is}
 use Rattle.moves.specs.declared.rounds.Most.{Most}
 use Rattle.moves.specs.Moves.{worst}
-use Rattle.moves.specs.Walks.{Worst}
+use Rattle.moves.specs.Walks.{WorstMember}
 
 abbrev First : (set : ℕ) → (ℕ → ℕ) → (sum at : ℕ) → Type 0
 First set f sum at = (member set at ≡ true) × (f at ≡ sum) × ((j : ℕ) → j < at → member set j ≡ true → f j < sum)
@@ -28,7 +28,7 @@ pub none-yet : {set : ℕ} {f : ℕ → ℕ} → OverMembers set f set 0 0
 none-yet = record { walk = begins; covers = λ i w. absurd (none-walked w); reached = inl refl }
 
 module _ {set : ℕ} {f : ℕ → ℕ} {rest sum at : ℕ} (inv : OverMembers set f rest sum at) where
-  pub all-seen : rest ≡ 0 → Worst set f sum at
+  pub all-seen : rest ≡ 0 → WorstMember set f sum at
   all-seen e = record { covers = λ i m. inv .covers i (all-walked e m); reached = inv .reached }
 
   module _ {i less : ℕ} (takes : TakesSmallest rest i less) where
@@ -66,10 +66,10 @@ one-more {set} {f} {rest} {i} {less} {found} inv takes v is new e = rw e (go (fo
 
 -- ---- What was found is what the definitions name
 
-pub worst-in : {set : ℕ} {f : ℕ → ℕ} {sum at : ℕ} → Worst set f sum at → (sum ≡ 0 → ⊥) → member set at ≡ true
+pub worst-in : {set : ℕ} {f : ℕ → ℕ} {sum at : ℕ} → WorstMember set f sum at → (sum ≡ 0 → ⊥) → member set at ≡ true
 worst-in found other = ⊎-elim (λ z. absurd (other z)) (λ r. r .0) (found .reached)
 
-module _ {set n : ℕ} {f : ℕ → ℕ} {sum at : ℕ} (below : (i : ℕ) → member set i ≡ true → i < n) (found : Worst set f sum at) where
+module _ {set n : ℕ} {f : ℕ → ℕ} {sum at : ℕ} (below : (i : ℕ) → member set i ≡ true → i < n) (found : WorstMember set f sum at) where
   pub is-largest : sum ≡ largest n (member set) f
   is-largest = le-antisymm (least (found .reached)) (most (largest-reached n (member set) f))
     where

@@ -18,15 +18,15 @@ refusalOf TooManyMoves = refuses 32 0
 refusalOf (LeavesStates at) = refuses 10 at
 refusalOf NoRoom = refuses 33 0
 
-abbrev pub passes? : Judged → Bool
-passes? Passes = true
-passes? (TableRefused refusal) = false
-passes? HasTimers = false
-passes? UnknownState = false
-passes? UnknownInput = false
-passes? TooManyMoves = false
-passes? (LeavesStates at) = false
-passes? NoRoom = false
+abbrev pub judgedPasses? : Judged → Bool
+judgedPasses? Passes = true
+judgedPasses? (TableRefused refusal) = false
+judgedPasses? HasTimers = false
+judgedPasses? UnknownState = false
+judgedPasses? UnknownInput = false
+judgedPasses? TooManyMoves = false
+judgedPasses? (LeavesStates at) = false
+judgedPasses? NoRoom = false
 
 abbrev pub replyOf : Answer → Reply
 replyOf (Reacts r) = gives (r .time ∷ r .target ∷ r .length ∷ [])

@@ -16,7 +16,7 @@ use Rattle.moves.specs.declared.Judged.the-variants.{Passes, TableRefuse
 use Rattle.moves.specs.declared.Reaction.{Reaction}
 use Rattle.moves.specs.declared.Answer.{Answer}
 use Rattle.moves.specs.declared.Answer.the-variants.{Reacts, Refused}
-use Rattle.moves.specs.Answer.{passes?}
+use Rattle.moves.specs.Answer.{judgedPasses?}
 
 -- next applied n times to P.
 unfoldable pub nextTimes : Table → (P A n : ℕ) → ℕ
@@ -39,15 +39,15 @@ module _ (t : Table) (P A N : ℕ) where
   ahead row q a = getD row (nextOf t q a) 0
 
   -- The largest of these over A, and the smallest input that has it.
-  abbrev pub most : List ℕ → ℕ → ℕ
-  most row q = largest (t .inputs) (member A) (ahead row q)
+  abbrev pub mostAhead : List ℕ → ℕ → ℕ
+  mostAhead row q = largest (t .inputs) (member A) (ahead row q)
 
   abbrev pub worstInput : List ℕ → ℕ → ℕ
   worstInput row q = worst (t .inputs) (member A) (ahead row q)
 
   -- A row from the one before: paths that begin with one state more.
   unfoldable pub round : List ℕ → List ℕ
-  round row = values (λ q. if onPath q then weight t A q + most row q else 0) (t .states)
+  round row = values (λ q. if onPath q then weight t A q + mostAhead row q else 0) (t .states)
 
   -- For each state the largest sum of a path of at most so many states that begins there.
   unfoldable pub sumsOf : ℕ → List ℕ
@@ -65,7 +65,7 @@ module _ (t : Table) (P A N : ℕ) where
   unfoldable pub pathFrom : (follow q : ℕ) → List ℕ
   pathFrom zero q = q ∷ []
   pathFrom (suc k) q =
-      if most (sumsOf (suc k)) q =? 0 then q ∷ []
+      if mostAhead (sumsOf (suc k)) q =? 0 then q ∷ []
       else q ∷ worstInput (sumsOf (suc k)) q ∷ pathFrom k (nextOf t q (worstInput (sumsOf (suc k)) q))
 
   -- The largest sum of all, and the smallest state at which a path with it begins.
@@ -118,10 +118,10 @@ pathOver t P A n path =
 unfoldable pub movesOf : List ℕ → (P A n sums path : ℕ) → Answer
 movesOf s P A n sums path =
     let judged = judgeOf s P A n sums path in
-    if passes? judged then Reacts (reactionOver (tableIn s) P A n) else Refused judged
+    if judgedPasses? judged then Reacts (reactionOver (tableIn s) P A n) else Refused judged
 
 unfoldable pub sumsAfter : List ℕ → (P A n : ℕ) → (sums : List ℕ) (path : ℕ) → List ℕ
-sumsAfter s P A n sums path = if passes? (judgeOf s P A n (length sums) path) then sumsOver (tableIn s) P A n sums else sums
+sumsAfter s P A n sums path = if judgedPasses? (judgeOf s P A n (length sums) path) then sumsOver (tableIn s) P A n sums else sums
 
 unfoldable pub pathAfter : List ℕ → (P A n : ℕ) → (sums : ℕ) (path : List ℕ) → List ℕ
-pathAfter s P A n sums path = if passes? (judgeOf s P A n sums (length path)) then pathOver (tableIn s) P A n path else path
+pathAfter s P A n sums path = if judgedPasses? (judgeOf s P A n sums (length path)) then pathOver (tableIn s) P A n path else path

@@ -17,8 +17,8 @@ abbrev pub Weighs : (set : ℕ) → (ℕ → ℕ) → List ℕ → Type 0
 Weighs set f array = (i : ℕ) → getD array i 0 ≡ (if member set i then f i else 0)
 
 -- A place for each member, from a place on.
-abbrev pub Reaches : (set from : ℕ) → List ℕ → Type 0
-Reaches set from s = (i : ℕ) → member set i ≡ true → from + i < length s
+abbrev pub PlaceForEach : (set from : ℕ) → List ℕ → Type 0
+PlaceForEach set from s = (i : ℕ) → member set i ≡ true → from + i < length s
 
 -- No next state leaves the first so many.
 pub record Steps (next : ℕ → ℕ → ℕ) (way : Way) : Type 0 where
@@ -33,13 +33,13 @@ Times next P A zero N = N ≡ P
 Times next P A (suc n) N = (M : ℕ) × Times next P A n M × NextStates next M (Pairs M A) N
 
 -- `at` is the smallest member with the largest f of them, and that is `sum`; or all are 0, and `sum` is.
-pub record Worst (set : ℕ) (f : ℕ → ℕ) (sum at : ℕ) : Type 0 where
+pub record WorstMember (set : ℕ) (f : ℕ → ℕ) (sum at : ℕ) : Type 0 where
   pub covers : (i : ℕ) → member set i ≡ true → f i ≤ sum
   pub reached : (sum ≡ 0) ⊎ ((member set at ≡ true) × (f at ≡ sum) × ((j : ℕ) → j < at → member set j ≡ true → f j < sum))
 
 -- next(P, A) is inside P.
-abbrev pub Closed : (next : ℕ → ℕ → ℕ) → (P A : ℕ) → Type 0
-Closed next P A = (p a : ℕ) → Pairs P A p a → member P (next p a) ≡ true
+abbrev pub StaysInside : (next : ℕ → ℕ → ℕ) → (P A : ℕ) → Type 0
+StaysInside next P A = (p a : ℕ) → Pairs P A p a → member P (next p a) ≡ true
 
 module _ (next : ℕ → ℕ → ℕ) (way : Way) where
   -- ---- The sums, where `weigh q` is the weight of a state on a path, and 0 for any other
@@ -84,8 +84,8 @@ module _ (next : ℕ → ℕ → ℕ) (way : Way) where
   wholePath sums follow sum q = if sum =? 0 then [] else pathIn sums follow q
 
 -- Where there is a path it begins at a state.
-abbrev pub Begins : (sum q : ℕ) → Way → Type 0
-Begins sum q way = (sum ≡ 0) ⊎ (q < way .states)
+abbrev pub BeginsAtState : (sum q : ℕ) → Way → Type 0
+BeginsAtState sum q way = (sum ≡ 0) ⊎ (q < way .states)
 
 -- No weight is above this: the longest hold and twice the largest cycle bound.
 abbrev pub heaviest : ℕ

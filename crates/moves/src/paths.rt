@@ -6,8 +6,8 @@ ghost use lib.ListN.{length};
 ghost use Rattle.wire.specs.Choice.{_=?_, if_then_else_};
 ghost use Rattle.wire.specs.Encode.{placedIn};
 ghost use Rattle.sets.specs.Sets.{member};
-ghost use Rattle.reaction.specs.Walks.{inRows};
-ghost use Rattle.moves.specs.Walks.{Steps, inputIn, pathIn, wholePath, Begins};
+ghost use Rattle.reaction.specs.Walks.{nextInRows};
+ghost use Rattle.moves.specs.Walks.{Steps, inputIn, pathIn, wholePath, BeginsAtState};
 use crate::rounds::Most;
 use crate::rounds::Way;
 use crate::rounds::worst_step;
@@ -23,9 +23,9 @@ fn state_step<'a>(
     left: usize,
     state: u32,
 ) -> usize
-    requires { ⌜ Steps (inRows (now next) (way .width)) way × (state < way .states) × (left ≤ 32) × (left * way .states ≤ length (now sums)) × (at + (left + left + 1) ≤ length (now path)) ⌝ }
-    ensures is { λ r. ⌜ r ≡ at + length (pathIn (inRows (now (next .entry)) (way .width)) way (now (sums .entry)) left state) ⌝ }
-    ensures holds { λ _. ⌜ now (path .exit) ≡ placedIn (now (path .entry)) at (pathIn (inRows (now (next .entry)) (way .width)) way (now (sums .entry)) left state) ⌝ }
+    requires { ⌜ Steps (nextInRows (now next) (way .width)) way × (state < way .states) × (left ≤ 32) × (left * way .states ≤ length (now sums)) × (at + (left + left + 1) ≤ length (now path)) ⌝ }
+    ensures is { λ r. ⌜ r ≡ at + length (pathIn (nextInRows (now (next .entry)) (way .width)) way (now (sums .entry)) left state) ⌝ }
+    ensures holds { λ _. ⌜ now (path .exit) ≡ placedIn (now (path .entry)) at (pathIn (nextInRows (now (next .entry)) (way .width)) way (now (sums .entry)) left state) ⌝ }
 {
     path[at] = state as u8;
     if left == 0 {
@@ -49,9 +49,9 @@ fn input_step<'a>(
     state: u32,
     input: u32,
 ) -> usize
-    requires { ⌜ Steps (inRows (now next) (way .width)) way × (state < way .states) × (member (way .inputs) input ≡ true) × (0 < left) × (left ≤ 32) × (left * way .states ≤ length (now sums)) × (at + (left + left) ≤ length (now path)) ⌝ }
-    ensures is { λ r. ⌜ r ≡ at + length (inputIn (inRows (now (next .entry)) (way .width)) way (now (sums .entry)) left state input) ⌝ }
-    ensures holds { λ _. ⌜ now (path .exit) ≡ placedIn (now (path .entry)) at (inputIn (inRows (now (next .entry)) (way .width)) way (now (sums .entry)) left state input) ⌝ }
+    requires { ⌜ Steps (nextInRows (now next) (way .width)) way × (state < way .states) × (member (way .inputs) input ≡ true) × (0 < left) × (left ≤ 32) × (left * way .states ≤ length (now sums)) × (at + (left + left) ≤ length (now path)) ⌝ }
+    ensures is { λ r. ⌜ r ≡ at + length (inputIn (nextInRows (now (next .entry)) (way .width)) way (now (sums .entry)) left state input) ⌝ }
+    ensures holds { λ _. ⌜ now (path .exit) ≡ placedIn (now (path .entry)) at (inputIn (nextInRows (now (next .entry)) (way .width)) way (now (sums .entry)) left state input) ⌝ }
 {
     path[at] = input as u8;
     let to = next_state(next, way.width, state, input);
@@ -67,9 +67,9 @@ pub fn write_path<'a>(
     first: Most,
     path: &mut [u8],
 ) -> usize
-    requires { ⌜ Steps (inRows (now next) (way .width)) way × Begins (first .sum) (first .member) way × (left ≤ 32) × (left * way .states ≤ length (now sums)) × (left + left + 1 ≤ length (now path)) ⌝ }
-    ensures is { λ r. ⌜ r ≡ length (wholePath (inRows (now (next .entry)) (way .width)) way (now (sums .entry)) left (first .sum) (first .member)) ⌝ }
-    ensures holds { λ _. ⌜ now (path .exit) ≡ placedIn (now (path .entry)) 0 (wholePath (inRows (now (next .entry)) (way .width)) way (now (sums .entry)) left (first .sum) (first .member)) ⌝ }
+    requires { ⌜ Steps (nextInRows (now next) (way .width)) way × BeginsAtState (first .sum) (first .member) way × (left ≤ 32) × (left * way .states ≤ length (now sums)) × (left + left + 1 ≤ length (now path)) ⌝ }
+    ensures is { λ r. ⌜ r ≡ length (wholePath (nextInRows (now (next .entry)) (way .width)) way (now (sums .entry)) left (first .sum) (first .member)) ⌝ }
+    ensures holds { λ _. ⌜ now (path .exit) ≡ placedIn (now (path .entry)) 0 (wholePath (nextInRows (now (next .entry)) (way .width)) way (now (sums .entry)) left (first .sum) (first .member)) ⌝ }
 {
     if first.sum == 0 {
         return 0;

@@ -5,9 +5,9 @@ ghost use Prim.Native.Nat.{ℕ, _+_, _*_, _<_, _≤_};
 ghost use lib.ListN.{length, getD};
 ghost use Rattle.wire.specs.Choice.{_<?_, if_then_else_};
 ghost use Rattle.sets.specs.Sets.{member};
-ghost use Rattle.table.specs.Entries.{filled};
-ghost use Rattle.reaction.specs.Walks.{inRows};
-ghost use Rattle.moves.specs.Walks.{Reaches, Steps, Worst, aheadIn, sumIn, sumFrom, heaviest, SumsFit};
+ghost use Rattle.table.specs.Entries.{filledTo};
+ghost use Rattle.reaction.specs.Walks.{nextInRows};
+ghost use Rattle.moves.specs.Walks.{PlaceForEach, Steps, WorstMember, aheadIn, sumIn, sumFrom, heaviest, SumsFit};
 use sets::take_smallest;
 use table::next_state;
 
@@ -42,8 +42,8 @@ pub fn worst_step<'a>(
     from: usize,
     state: u32,
 ) -> Most
-    requires { ⌜ Steps (inRows (now next) (way .width)) way × (state < way .states) × (from + way .states ≤ length (now sums)) ⌝ }
-    ensures { λ r. ⌜ Worst (way .inputs) (aheadIn (inRows (now (next .entry)) (way .width)) way (now (sums .entry)) from state) (r .sum) (r .member) ⌝ }
+    requires { ⌜ Steps (nextInRows (now next) (way .width)) way × (state < way .states) × (from + way .states ≤ length (now sums)) ⌝ }
+    ensures { λ r. ⌜ WorstMember (way .inputs) (aheadIn (nextInRows (now (next .entry)) (way .width)) way (now (sums .entry)) from state) (r .sum) (r .member) ⌝ }
 {
     let mut rest = way.inputs;
     let mut most = Most { sum: 0, member: 0 };
@@ -59,8 +59,8 @@ pub fn worst_step<'a>(
 
 // Of these states, in the row at `from`.
 pub fn worst_start(sums: &[u32], from: usize, states: u32) -> Most
-    requires { ⌜ Reaches states from (now sums) ⌝ }
-    ensures { λ r. ⌜ Worst states (λ q. getD (now (sums .entry)) (from + q) 0) (r .sum) (r .member) ⌝ }
+    requires { ⌜ PlaceForEach states from (now sums) ⌝ }
+    ensures { λ r. ⌜ WorstMember states (λ q. getD (now (sums .entry)) (from + q) 0) (r .sum) (r .member) ⌝ }
 {
     let mut rest = states;
     let mut most = Most { sum: 0, member: 0 };
@@ -82,8 +82,8 @@ fn sum_at<'a>(
     way: Way,
     k: usize,
 ) -> u32
-    requires { ⌜ Steps (inRows (now next) (way .width)) way × (k < length (now sums)) × SumsFit way (λ q. getD (now weights) q 0) (now sums) k ⌝ }
-    ensures { λ r. ⌜ r ≡ sumFrom (inRows (now (next .entry)) (way .width)) way (λ q. getD (now (weights .entry)) q 0) (now (sums .entry)) k ⌝ }
+    requires { ⌜ Steps (nextInRows (now next) (way .width)) way × (k < length (now sums)) × SumsFit way (λ q. getD (now weights) q 0) (now sums) k ⌝ }
+    ensures { λ r. ⌜ r ≡ sumFrom (nextInRows (now (next .entry)) (way .width)) way (λ q. getD (now (weights .entry)) q 0) (now (sums .entry)) k ⌝ }
 {
     let states = way.states as usize;
     let state = k % states;
@@ -106,8 +106,8 @@ pub fn fill_sums<'a>(
     moves: u32,
     sums: &mut [u32],
 )
-    requires { ⌜ Steps (inRows (now next) (way .width)) way × (moves ≤ 32) × (moves * way .states ≤ length (now sums)) × ((q : ℕ) → getD (now weights) q 0 ≤ heaviest) ⌝ }
-    ensures { λ _. ⌜ now (sums .exit) ≡ filled (sumIn (inRows (now (next .entry)) (way .width)) way (λ q. getD (now (weights .entry)) q 0)) (moves * way .states) (now (sums .entry)) ⌝ }
+    requires { ⌜ Steps (nextInRows (now next) (way .width)) way × (moves ≤ 32) × (moves * way .states ≤ length (now sums)) × ((q : ℕ) → getD (now weights) q 0 ≤ heaviest) ⌝ }
+    ensures { λ _. ⌜ now (sums .exit) ≡ filledTo (sumIn (nextInRows (now (next .entry)) (way .width)) way (λ q. getD (now (weights .entry)) q 0)) (moves * way .states) (now (sums .entry)) ⌝ }
 {
     let total = (moves * way.states) as usize;
     let mut k = 0;

@@ -22,7 +22,7 @@ use Rattle.reaction.specs.declared.Gathered.{Gathered}
 use Rattle.reaction.specs.declared.Gathered.the-variants.{Inside, Leaves}
 use Rattle.reaction.specs.Reaction.{weightOf, weight, firstLeaving, reactionOf}
 use Rattle.reaction.specs.Meaning.{Pairs, NextStates, Slowest, Reaction, Leaving}
-use Rattle.reaction.specs.Walks.{inRows, Walkable, FirstLeaving, Finds, PairBelow, placeOf, weightIn, Reaches, IsLargest}
+use Rattle.reaction.specs.Walks.{nextInRows, Walkable, FirstLeaving, Finds, PairBelow, placeOf, weightIn, Reaches, IsLargest}
 use Rattle.reaction.proofs.Gathered as GatheredT
 use Rattle.reaction.proofs.Meaning.{AllExist, search-ends, only-answer}
 
@@ -57,7 +57,7 @@ weight-at-least hold E delayed = go ((0 <? hold) and delayed)
 module _ {t : Table} {P A : ℕ} (all : AllExist t P A) where
   -- ---- Next states
 
-  pub can-walk : Walkable (inRows (t .next) (t .inputs)) (t .inputs) P A
+  pub can-walk : Walkable (nextInRows (t .next) (t .inputs)) (t .inputs) P A
   can-walk = record {
     few = all .table .inputs .1;
     below = λ p a h. omega (arith, all .table .next p a (all .states p (h .0)) (all .inputs a (h .1)), all .table .states);

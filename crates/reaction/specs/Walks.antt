@@ -12,8 +12,8 @@ use Rattle.reaction.specs.Reaction.{weightOf}
 use Rattle.reaction.specs.Meaning.{Pairs, NextStates}
 
 -- next(p, a) in rows of this width.
-abbrev pub inRows : List ℕ → ℕ → ℕ → ℕ → ℕ
-inRows rows width p a = getD rows (p * width + a) 0
+abbrev pub nextInRows : List ℕ → ℕ → ℕ → ℕ → ℕ
+nextInRows rows width p a = getD rows (p * width + a) 0
 
 -- Rows over which P and A can be walked.
 pub record Walkable (next : ℕ → ℕ → ℕ) (width P A : ℕ) : Type 0 where

@@ -11,7 +11,7 @@ ghost use Rattle.table.specs.Check.{tableAnswer, tableIn};
 ghost use Rattle.reaction.specs.Answer.{replyOf};
 ghost use Rattle.reaction.specs.Reaction.{weightOf, reactionOf, forHolds, reactOf};
 ghost use Rattle.reaction.specs.Meaning.{Pairs};
-ghost use Rattle.reaction.specs.Walks.{inRows, Walkable, From, Finds, PairBelow, placeOf, weightIn, IsLargest};
+ghost use Rattle.reaction.specs.Walks.{nextInRows, Walkable, From, Finds, PairBelow, placeOf, weightIn, IsLargest};
 use sets::difference;
 use sets::has;
 use sets::meet;
@@ -83,8 +83,8 @@ impl Gathered {
 
 // The next states of one state under the inputs.
 fn next_of_state(rows: &[u8; 1024], width: u32, states: u32, inputs: u32, state: u32) -> Gathered
-    requires { ⌜ Walkable (inRows (now rows) width) width states inputs × (member states state ≡ true) ⌝ }
-    ensures { λ r. ⌜ Finds (inRows (now (rows .entry)) width) states (From state inputs) r ⌝ }
+    requires { ⌜ Walkable (nextInRows (now rows) width) width states inputs × (member states state ≡ true) ⌝ }
+    ensures { λ r. ⌜ Finds (nextInRows (now (rows .entry)) width) states (From state inputs) r ⌝ }
 {
     let mut rest = inputs;
     let mut target = 0;
@@ -103,8 +103,8 @@ fn next_of_state(rows: &[u8; 1024], width: u32, states: u32, inputs: u32, state:
 
 // The next states of all the states under the inputs.
 pub fn next_of_states(rows: &[u8; 1024], width: u32, states: u32, inputs: u32) -> Gathered
-    requires { ⌜ Walkable (inRows (now rows) width) width states inputs ⌝ }
-    ensures { λ r. ⌜ Finds (inRows (now (rows .entry)) width) states (Pairs states inputs) r ⌝ }
+    requires { ⌜ Walkable (nextInRows (now rows) width) width states inputs ⌝ }
+    ensures { λ r. ⌜ Finds (nextInRows (now (rows .entry)) width) states (Pairs states inputs) r ⌝ }
 {
     let mut rest = states;
     let mut target = 0;

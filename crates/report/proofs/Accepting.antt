@@ -14,30 +14,30 @@ use Rattle.table.specs.Under.{underTable}
 use Rattle.table.proofs.Answers.{decided}
 use Rattle.table.proofs.Under.{under-passes}
 use Rattle.records.specs.Form.{journal}
-use Rattle.machine.specs.Walk.{Run, ran, tooLong, refused, runOver}
+use Rattle.machine.specs.Walk.{RunOverBytes, ran, tooLong, refused, runOver}
 use Rattle.records.specs.declared.Refusal.{Refusal}
 use Rattle.journal.specs.declared.Numbers.{Numbers}
 use Rattle.journal.specs.declared.Answer as checks
 use Rattle.journal.specs.declared.Answer.the-variants as check
-use Rattle.journal.specs.Check.{answerOf, checkIn, checkOf}
+use Rattle.journal.specs.Check.{answerOfRun, checkIn, checkOf}
 use Rattle.journal.specs.Accepted.{AcceptedIn}
 use Rattle.tally.specs.declared.Tally.{Tally}
 use Rattle.tally.specs.Tally.{tallyOf, tallyIn}
 use Rattle.report.specs.declared.Answer.the-variants.{Taken, TableRefused, TooLong, Refused, Full}
 use Rattle.report.specs.declared.Report.{Report}
 use Rattle.report.specs.declared.Added as added
-use Rattle.report.specs.Report.{mostJournals, longestTable, tableOf, withTally, unchanged, addedBy, addUnder, addOf}
+use Rattle.report.specs.Report.{mostJournals, longestTable, tableKept, withTally, asItWas, addedBy, addUnder, addOf}
 
 module _ (table s : List ℕ) (x : Report) where
   -- What each answer of the check tells.
   abbrev Told : added.Added → checks.Answer → Type 0
   Told r (check.Accepted n) = AcceptedIn journal table s
-  Told r (check.TableRefused answer) = unchanged x (TableRefused answer) ≡ r
-  Told r check.TooLong = unchanged x TooLong ≡ r
-  Told r (check.Refused refusal place) = unchanged x (Refused refusal place) ≡ r
+  Told r (check.TableRefused answer) = asItWas x (TableRefused answer) ≡ r
+  Told r check.TooLong = asItWas x TooLong ≡ r
+  Told r (check.Refused refusal place) = asItWas x (Refused refusal place) ≡ r
 
-  told-run : tableAnswer table ≡ Passes → (r : Run) → runOver journal (tableIn table) s ≡ r → Told (addedBy (tableIn table) x r) (answerOf (tableIn table) r)
-  unfolding addedBy answerOf
+  told-run : tableAnswer table ≡ Passes → (r : RunOverBytes) → runOver journal (tableIn table) s ≡ r → Told (addedBy (tableIn table) x r) (answerOfRun (tableIn table) r)
+  unfolding addedBy answerOfRun
   told-run passes (ran input taken last) is = record { passes = passes; input = input; taken = taken; last = last; through = is }
   told-run passes tooLong is = refl
   told-run passes (refused refusal place) is = refl
@@ -53,13 +53,13 @@ module _ (table s : List ℕ) (x : Report) where
     pub told-accepted : (n : Numbers) → a ≡ check.Accepted n → AcceptedIn journal table s
     told-accepted n e = told-by (check.Accepted n) e
 
-    pub told-table : (answer : tables.Answer) → a ≡ check.TableRefused answer → unchanged x (TableRefused answer) ≡ addUnder table x s
+    pub told-table : (answer : tables.Answer) → a ≡ check.TableRefused answer → asItWas x (TableRefused answer) ≡ addUnder table x s
     told-table answer e = told-by (check.TableRefused answer) e
 
-    pub told-too-long : a ≡ check.TooLong → unchanged x TooLong ≡ addUnder table x s
+    pub told-too-long : a ≡ check.TooLong → asItWas x TooLong ≡ addUnder table x s
     told-too-long e = told-by check.TooLong e
 
-    pub told-refused : (refusal : Refusal) (place : ℕ) → a ≡ check.Refused refusal place → unchanged x (Refused refusal place) ≡ addUnder table x s
+    pub told-refused : (refusal : Refusal) (place : ℕ) → a ≡ check.Refused refusal place → asItWas x (Refused refusal place) ≡ addUnder table x s
     told-refused refusal place e = told-by (check.Refused refusal place) e
 
   -- An accepted one.
@@ -68,7 +68,7 @@ module _ (table s : List ℕ) (x : Report) where
     unfolding addUnder
     under-accepted = sym (under-passes _ _ table (ok .passes))
 
-    pub accepted-full : mostJournals ≤ x .journals → unchanged x Full ≡ addedBy (tableIn table) x (runOver journal (tableIn table) s)
+    pub accepted-full : mostJournals ≤ x .journals → asItWas x Full ≡ addedBy (tableIn table) x (runOver journal (tableIn table) s)
     unfolding addedBy
     accepted-full many = rw (ok .through, le-leb mostJournals (x .journals) many) refl
 

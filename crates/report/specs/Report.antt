@@ -10,7 +10,7 @@ use Rattle.table.specs.Check.{tableAnswer}
 use Rattle.table.specs.Entries.{zeros, padded}
 use Rattle.table.specs.Under.{underTable}
 use Rattle.records.specs.Form.{journal}
-use Rattle.machine.specs.Walk.{Run, ran, tooLong, refused, runOver}
+use Rattle.machine.specs.Walk.{RunOverBytes, ran, tooLong, refused, runOver}
 use Rattle.tally.specs.declared.Tally.{Tally}
 use Rattle.tally.specs.Tally.{tallyOf}
 use Rattle.tally.specs.Sums.{summed}
@@ -46,8 +46,8 @@ beginOf table = record { answer = tableAnswer table; report = emptyWith (if pass
 -- ---- A journal more
 
 -- The bytes of the table that it keeps.
-abbrev pub tableOf : Report → List ℕ
-tableOf x = take (x .size) (x .table)
+abbrev pub tableKept : Report → List ℕ
+tableKept x = take (x .size) (x .table)
 
 unfoldable pub withTally : Report → Tally → Report
 withTally x y = record {
@@ -59,21 +59,21 @@ withTally x y = record {
   entries = summed (x .entries) (y .entries);
 }
 
-abbrev pub unchanged : Report → Answer → added.Added
-unchanged x answer = record { answer = answer; report = x }
+abbrev pub asItWas : Report → Answer → added.Added
+asItWas x answer = record { answer = answer; report = x }
 
 -- 35 comes after the checker's refusals.
-unfoldable pub addedBy : Table → Report → Run → added.Added
+unfoldable pub addedBy : Table → Report → RunOverBytes → added.Added
 addedBy t x (ran input taken last) =
-    if mostJournals ≤? x .journals then unchanged x Full
+    if mostJournals ≤? x .journals then asItWas x Full
     else record { answer = Taken; report = withTally x (tallyOf t input taken (last .time)) }
-addedBy t x tooLong = unchanged x TooLong
-addedBy t x (refused refusal place) = unchanged x (Refused refusal place)
+addedBy t x tooLong = asItWas x TooLong
+addedBy t x (refused refusal place) = asItWas x (Refused refusal place)
 
 -- Under these bytes of a table.
 unfoldable pub addUnder : List ℕ → Report → List ℕ → added.Added
-addUnder table x s = underTable (λ answer. unchanged x (TableRefused answer)) (λ t. addedBy t x (runOver journal t s)) table
+addUnder table x s = underTable (λ answer. asItWas x (TableRefused answer)) (λ t. addedBy t x (runOver journal t s)) table
 
 -- It is read under the report's own table. One that was begun with none refuses it as the table check does.
 unfoldable pub addOf : Report → List ℕ → added.Added
-addOf x s = addUnder (tableOf x) x s
+addOf x s = addUnder (tableKept x) x s

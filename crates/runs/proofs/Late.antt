@@ -14,7 +14,7 @@ use Rattle.records.specs.Record.{timeOf}
 use Rattle.machine.specs.Machine.{stateAfter, after}
 use Rattle.machine.proofs.Before.{entry-before}
 use Rattle.machine.proofs.Steps.{Taken}
-use Rattle.runs.specs.Slots.{NotTooLate}
+use Rattle.runs.specs.Slots.{SlotsNotTooLate}
 use Rattle.runs.specs.Reaction.{Reach, there, via, Suffices}
 use Rattle.runs.proofs.Records.{split, phases, state-kept, entry-kept, state-next}
 use Rattle.runs.proofs.History.{History}
@@ -97,7 +97,7 @@ module _ {t : Table} {P A N : ℕ → Bool} {w : ℕ → ℕ} {c : ℕ} (enough 
       go (home n) = n
       go (due u rest by-entry by-cycle paid reach) = absurd (omega (arith, here .past, here .takes .in-cycle))
 
-pub not-too-late : {t : Table} {P A N : ℕ → Bool} {w : ℕ → ℕ} {c : ℕ} → Suffices t P A N w c → NotTooLate t P A N c
+pub not-too-late : {t : Table} {P A N : ℕ → Bool} {w : ℕ → ℕ} {c : ℕ} → Suffices t P A N w c → SlotsNotTooLate t P A N c
 not-too-late {t} {c = c} enough input rs T accepted s l known =
     at-last enough s _ known _
     (in-slot t _ (InTime enough s _ known) (s + c) (keep enough s _ known) rs _ (accepted .last) (from-start accepted)

@@ -20,7 +20,7 @@ use Rattle.machine.specs.Verdict.{ruleOf}
 use Rattle.machine.specs.Machine.{start, entryInto, rule, verdict, stateAfter, after}
 use Rattle.machine.proofs.Steps.{Taken}
 use Rattle.machine.proofs.Watches.{rule-runs, some-timer}
-use Rattle.runs.specs.Slots.{Enters, NotTooSoon, NotTooSoonBy}
+use Rattle.runs.specs.Slots.{Enters, SlotsNotTooSoon, SlotsNotTooSoonBy}
 use Rattle.runs.proofs.Rules.{runs, runs-if}
 use Rattle.runs.proofs.Records.{phases, state-kept, entry-moved, entry-kept, regions-kept}
 use Rattle.runs.proofs.History.{History}
@@ -128,7 +128,7 @@ module _ (t : Table) (q f n : ℕ) (D : ℕ → Bool) (K : Regions → Type 0) (
   from-entry rs initial input last run (inr then) l u = from-tick rs _ last run then l u
 
 -- Here it is the state's hold, up to f + hold, whatever the regions.
-pub not-too-soon : (t : Table) → NotTooSoon t
+pub not-too-soon : (t : Table) → SlotsNotTooSoon t
 not-too-soon t input rs T accepted q e k entered l within u delayed =
     from-entry t q e k (delays t q) (λ regions. Unit {0}) holds _ tt delayed rs (t .initial) input (accepted .last) (from-start accepted) entered l
     (omega (arith, accepted .ends))
@@ -137,7 +137,7 @@ not-too-soon t input rs T accepted q e k entered l within u delayed =
     holds m time is since any delays l u = rule-runs t m time .1 (inl (runs _ _ _ _ _ .1 (rw (is, since) (omega arith, omega arith, delays))))
 
 -- And here timer k, up to its length after the entry into its region.
-pub not-too-soon-by : (t : Table) → WellFormed t → (k : ℕ) → k < t .timers → NotTooSoonBy t k
+pub not-too-soon-by : (t : Table) → WellFormed t → (k : ℕ) → k < t .timers → SlotsNotTooSoonBy t k
 not-too-soon-by t good k real input rs T accepted q f e n has entered last l within u delayed =
     let known = keeps-entries t input rs T accepted k f small ∙ last in
     from-entry t q f n (timerDelays t k q) (λ regions. entryInto regions k ≡ e) holds _ known delayed rs (t .initial) input (accepted .last)

@@ -30,7 +30,7 @@ pub record Suffices (t : Table) (P A N : ℕ → Bool) (w : ℕ → ℕ) (c : �
 
 -- One move, as the calculators have it: N holds every next(p, a) and nothing outside P, and c is at least E, and at least E + the weight of
 -- each state in P outside N, less 1.
-pub record OneMove (t : Table) (P A N : ℕ → Bool) (w : ℕ → ℕ) (c : ℕ) : Type 0 where
+pub record SufficesByOne (t : Table) (P A N : ℕ → Bool) (w : ℕ → ℕ) (c : ℕ) : Type 0 where
   pub no-regions : NoRegions t
   pub bound-positive : 1 ≤ t .bound
   pub weights : Weights t A w

@@ -56,8 +56,8 @@ KeepsEntries t =
     (k f : ℕ) → k < mostTimers → entryInto (slot t (start (t .initial) input) rs f .regions) k ≡ regionEntry t k f rs
 
 -- q is entered at e, e ≤ k ≤ e + hold, k < T, and each slot from e to k - 1 has an input delayed in q. Then slot k has state q.
-abbrev pub NotTooSoon : Table → Type 0
-NotTooSoon t =
+abbrev pub SlotsNotTooSoon : Table → Type 0
+SlotsNotTooSoon t =
     (input : ℕ) (rs : List Record) (T : ℕ) → Accepted t input rs T →
     (q e k : ℕ) → EnteredAt t input rs q e → e ≤ k → k ≤ e + holdOf t q → k < T →
     ((j : ℕ) → e ≤ j → j < k → delays t q (inputAt t input rs j) ≡ true) →
@@ -65,16 +65,16 @@ NotTooSoon t =
 
 -- For timer k: q of its region is entered at f, the region's last entry up to f is at e, f ≤ n ≤ e + length, n < T, and each slot from f
 -- to n - 1 has an input that the timer delays in q. Then slot n has state q.
-abbrev pub NotTooSoonBy : Table → (k : ℕ) → Type 0
-NotTooSoonBy t k =
+abbrev pub SlotsNotTooSoonBy : Table → (k : ℕ) → Type 0
+SlotsNotTooSoonBy t k =
     (input : ℕ) (rs : List Record) (T : ℕ) → Accepted t input rs T →
     (q f e n : ℕ) → inRegion t k q ≡ true → EnteredAt t input rs q f → regionEntry t k f rs ≡ e → f ≤ n → n ≤ e + lengthOf t k → n < T →
     ((j : ℕ) → f ≤ j → j < n → timerDelays t k q (inputAt t input rs j) ≡ true) →
     stateAt t input rs n ≡ q
 
 -- s + c < T, and each slot from s to s + c - 1 has its state in P and its input in A. Then slot s + c has its state in N.
-abbrev pub NotTooLate : Table → (ℕ → Bool) → (ℕ → Bool) → (ℕ → Bool) → ℕ → Type 0
-NotTooLate t P A N c =
+abbrev pub SlotsNotTooLate : Table → (ℕ → Bool) → (ℕ → Bool) → (ℕ → Bool) → ℕ → Type 0
+SlotsNotTooLate t P A N c =
     (input : ℕ) (rs : List Record) (T : ℕ) → Accepted t input rs T →
     (s : ℕ) → s + c < T →
     ((k : ℕ) → s ≤ k → k < s + c → (P (stateAt t input rs k) ≡ true) × (A (inputAt t input rs k) ≡ true)) →

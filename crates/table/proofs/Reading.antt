@@ -5,18 +5,18 @@ use Prim.Native.Nat.{ℕ, _*_}
 use Rattle.wire.specs.Choice.{_=?_, if_then_else_}
 use Rattle.table.specs.declared.Counts.{Counts}
 use Rattle.table.specs.declared.Places.{Places}
-use Rattle.table.specs.Entries.{filled, zeros}
+use Rattle.table.specs.Entries.{filledTo, zeros}
 use Rattle.table.specs.Check.{byteEntry, wordEntry, countsIn, boundIn, PlacesOf, timerSets, timersIn, tableWith, tableIn}
 
 pub table-made : (s : List ℕ) (c : Counts) (p : Places) → c ≡ countsIn s → PlacesOf c p →
     (bound timers holders sets-at : ℕ) (output next hold delayed timing sets : List ℕ) → bound ≡ boundIn s →
     timers ≡ timersIn c s → holders ≡ (if timers =? 0 then c .states else 0) → sets-at ≡ timerSets c timers →
-    output ≡ filled (byteEntry s 14) (c .states) (zeros 32) →
-    next ≡ filled (byteEntry s (p .next)) (p .pairs) (zeros 1024) →
-    hold ≡ filled (wordEntry s (p .hold)) holders (zeros 32) →
-    delayed ≡ filled (wordEntry s (p .delayed)) holders (zeros 32) →
-    timing ≡ filled (wordEntry s (p .hold)) (2 * timers) (zeros 8) →
-    sets ≡ filled (wordEntry s sets-at) (c .states * timers) (zeros 128) →
+    output ≡ filledTo (byteEntry s 14) (c .states) (zeros 32) →
+    next ≡ filledTo (byteEntry s (p .next)) (p .pairs) (zeros 1024) →
+    hold ≡ filledTo (wordEntry s (p .hold)) holders (zeros 32) →
+    delayed ≡ filledTo (wordEntry s (p .delayed)) holders (zeros 32) →
+    timing ≡ filledTo (wordEntry s (p .hold)) (2 * timers) (zeros 8) →
+    sets ≡ filledTo (wordEntry s sets-at) (c .states * timers) (zeros 128) →
     record {
       states = c .states;
       inputs = c .inputs;

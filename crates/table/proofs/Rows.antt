@@ -21,7 +21,7 @@ use Rattle.table.specs.declared.Answer.the-variants.{Passes, RunsOut, Wr
 use Rattle.table.specs.declared.Answer.the-variants.{UnknownMember, TimerOutOfRange, BytesAfter}
 use Rattle.table.specs.Answer.{passes?, _or-else_, _and-then_}
 use Rattle.table.specs.Entries.{entriesFrom}
-use Rattle.table.specs.Check.{named, inRange, fieldAnswer, rowAnswer, below, badWord, setAnswer, timerAnswer, timerEntry, holdField, holdsAnswer, timersAnswer, tagged, timingAnswer}
+use Rattle.table.specs.Check.{expectedField, isBetween, fieldAnswer, rowAnswer, below, badWord, setAnswer, timerAnswer, timerEntry, holdField, holdsAnswer, timersAnswer, tagged, timingAnswer}
 use Rattle.table.specs.Check.{bytesAnswer, wordsAnswer, setsAnswer, PlacesOf, entriesAnswer}
 use Rattle.table.specs.declared.Counts.{Counts}
 use Rattle.table.specs.declared.Places.{Places}
@@ -31,23 +31,23 @@ use Rattle.table.proofs.Answers.{refusal-stops, stops, goes-on, past, f
 
 module _ (s : List ℕ) (at tag size : ℕ) (f : Field) (is : f ≡ fieldAt s at) where
   pub runs-out : OneOf (1 ∷ []) (tagOf FieldT.the-type f) → RunsOut at ≡ fieldAnswer s at tag size
-  unfolding fieldAnswer named
+  unfolding fieldAnswer expectedField
   runs-out h = rw (← is) (go f h)
     where
-      go : (g : Field) → OneOf (1 ∷ []) (tagOf FieldT.the-type g) → RunsOut at ≡ named g at tag size
+      go : (g : Field) → OneOf (1 ∷ []) (tagOf FieldT.the-type g) → RunsOut at ≡ expectedField g at tag size
       go (Whole found claimed) h = absurd (miss (1 ∷ []) 0 tt h)
       go RunOut h = refl
 
   pub is-whole : (found claimed : ℕ) → f ≡ Whole found claimed → (r : Answer) →
       r ≡ ((found =? tag) && (claimed =? size) or-else WrongTagOrLength at) → r ≡ fieldAnswer s at tag size
-  unfolding fieldAnswer named
+  unfolding fieldAnswer expectedField
   is-whole found claimed whole r e = rw (← is, whole) e
 
 pub field-stands : (s : List ℕ) (at tag size : ℕ) → fieldAnswer s at tag size ≡ Passes → WholeAt s at tag size
-unfolding fieldAnswer named
+unfolding fieldAnswer expectedField
 field-stands s at tag size e = go (fieldAt s at) refl e
   where
-    go : (f : Field) → fieldAt s at ≡ f → named f at tag size ≡ Passes → WholeAt s at tag size
+    go : (f : Field) → fieldAt s at ≡ f → expectedField f at tag size ≡ Passes → WholeAt s at tag size
     go RunOut is p = refusal-stands (RunsOut at) refl p
     go (Whole found claimed) is p =
         let b = both (found =? tag) (claimed =? size) (told _ (WrongTagOrLength at) refl p) in
@@ -173,12 +173,12 @@ bad-word-refuses tag place = go (tag =? 0x05)
 
 -- ---- Timers
 
-pub in-range : (low high x : ℕ) → inRange low high x ≡ true → (low ≤ x) × (x ≤ high)
+pub in-range : (low high x : ℕ) → isBetween low high x ≡ true → (low ≤ x) × (x ≤ high)
 in-range low high x e =
     let b = both (low ≤? x) (x ≤? high) e in
     (leb-true low x (b .0), leb-true x high (b .1))
 
-pub between : (low high x : ℕ) → (low ≤ x) × (x ≤ high) → inRange low high x ≡ true
+pub between : (low high x : ℕ) → (low ≤ x) × (x ≤ high) → isBetween low high x ≡ true
 between low high x h = rw (le-leb low x (h .0), le-leb x high (h .1))
 
 -- The k-th timer, as the code finds it.
@@ -226,7 +226,7 @@ untagged s at f is h = go f h ∙ ap tagged is
     go RunOut k = refl
 
 -- A number of timers that passed.
-pub number-known : (n at : ℕ) → (inRange 1 mostTimers n or-else WrongTagOrLength at) ≡ Passes → (1 ≤ n) × (n ≤ mostTimers)
+pub number-known : (n at : ℕ) → (isBetween 1 mostTimers n or-else WrongTagOrLength at) ≡ Passes → (1 ≤ n) × (n ≤ mostTimers)
 number-known n at e = in-range 1 mostTimers n (told _ (WrongTagOrLength at) refl e)
 
 -- Which fields are looked at, by the kind that the code has found.

@@ -12,7 +12,7 @@ use Rattle.sets.proofs.Members.{member-below}
 use Rattle.table.specs.declared.Answer.{Answer}
 use Rattle.table.specs.declared.Answer.the-variants.{Passes}
 use Rattle.table.specs.Answer.{passes?}
-use Rattle.table.specs.Entries.{filled, zeros}
+use Rattle.table.specs.Entries.{filledTo, zeros}
 use Rattle.table.specs.Table.{longestHold, mostTimers, member, holdOf, delayedOf, delays, lengthOf, inRegion, timerDelays, WellFormedBy, WellFormed}
 use Rattle.table.specs.Check.{below, rowAnswer, byteEntry, bytesAnswer, wordEntry, wordsAnswer, setEntry, setsAnswer}
 use Rattle.table.specs.Check.{countsIn, nextField, holdField, delayedField, timerSets, timersRow, timingAnswer, answerBy, tableAnswer}
@@ -29,14 +29,14 @@ use Rattle.table.proofs.Stands.{CountsFit, HeadStands, HoldsStand, Time
 -- Entries that a limit let pass are below it in the array too.
 module _ (s : List ℕ) (at tag n limit places : ℕ) (fits : n ≤ places) where
   held-below : (size : ℕ) (entry : ℕ → ℕ) (called : ℕ → Answer) → ((k : ℕ) → passes? (called k) ≡ false) →
-      rowAnswer s at tag size (below limit entry called) n ≡ Passes → (k : ℕ) → k < n → getD (filled entry n (zeros places)) k 0 < limit
+      rowAnswer s at tag size (below limit entry called) n ≡ Passes → (k : ℕ) → k < n → getD (filledTo entry n (zeros places)) k 0 < limit
   held-below size entry called bad e k h =
       rw (getD-filled entry n places fits k h) (limited limit entry called k (bad k) (row-each s at tag size _ n e k h))
 
-  bytes-below : bytesAnswer s at tag n limit ≡ Passes → (k : ℕ) → k < n → getD (filled (byteEntry s at) n (zeros places)) k 0 < limit
+  bytes-below : bytesAnswer s at tag n limit ≡ Passes → (k : ℕ) → k < n → getD (filledTo (byteEntry s at) n (zeros places)) k 0 < limit
   bytes-below = held-below n (byteEntry s at) _ (λ k. refl)
 
-  words-below : wordsAnswer s at tag n limit ≡ Passes → (k : ℕ) → k < n → getD (filled (wordEntry s at) n (zeros places)) k 0 < limit
+  words-below : wordsAnswer s at tag n limit ≡ Passes → (k : ℕ) → k < n → getD (filledTo (wordEntry s at) n (zeros places)) k 0 < limit
   words-below = held-below (4 * n) (wordEntry s at) _ (λ k. bad-word-refuses tag (at + 3 + 4 * k))
 
 -- Delayed sets that passed, as the arrays have them.
@@ -44,11 +44,11 @@ module _ (old : Bool) (s : List ℕ) (holds at n limit places : ℕ) (fits : n �
   passes-set : (k : ℕ) → k < n → setEntry old s holds at limit k ≡ Passes
   passes-set = row-each s at 0x06 (4 * n) _ n e
 
-  set-below : (k : ℕ) → k < n → getD (filled (wordEntry s at) n (zeros places)) k 0 < limit
+  set-below : (k : ℕ) → k < n → getD (filledTo (wordEntry s at) n (zeros places)) k 0 < limit
   set-below k h = rw (getD-filled (wordEntry s at) n places fits k h) (set-known old _ _ limit _ (passes-set k h))
 
-  never-idle : old ≡ false → (k : ℕ) → k < n → getD (filled (wordEntry s holds) n (zeros places)) k 0 ≡ 0 →
-      getD (filled (wordEntry s at) n (zeros places)) k 0 ≡ 0
+  never-idle : old ≡ false → (k : ℕ) → k < n → getD (filledTo (wordEntry s holds) n (zeros places)) k 0 ≡ 0 →
+      getD (filledTo (wordEntry s at) n (zeros places)) k 0 ≡ 0
   never-idle new k h none =
       let hold = rw (getD-filled (wordEntry s holds) n places fits k h) at none in
       let passed = rw new at (passes-set k h) in
@@ -57,7 +57,7 @@ module _ (old : Bool) (s : List ℕ) (holds at n limit places : ℕ) (fits : n �
 -- Timers that passed, as the array has them.
 module _ (s : List ℕ) (at n limit : ℕ) (few : n ≤ 4) (e : timersRow s at n limit ≡ Passes) where
   abbrev told : ℕ → ℕ
-  told k = getD (filled (wordEntry s at) (2 * n) (zeros 8)) k 0
+  told k = getD (filledTo (wordEntry s at) (2 * n) (zeros 8)) k 0
 
   timer-below : (k : ℕ) → k < n → (1 ≤ told (2 * k)) × (told (2 * k) ≤ longestHold) × (told (2 * k + 1) < limit)
   timer-below k h =
@@ -103,7 +103,7 @@ module _ (old : Bool) (s : List ℕ) (c : Counts) (fit : CountsFit c) where
     no-holders = let some = stands .few .0 in rw (ne-eqb n 0 (λ e. omega arith)) refl
 
     -- Nothing was read into the array.
-    nothing : (entry : ℕ → ℕ) (q : ℕ) → getD (filled entry (if n =? 0 then c .states else 0) (zeros 32)) q 0 ≡ 0
+    nothing : (entry : ℕ → ℕ) (q : ℕ) → getD (filledTo entry (if n =? 0 then c .states else 0) (zeros 32)) q 0 ≡ 0
     nothing entry q = rw no-holders (filled-uses entry 0 32 (omega arith) .rest q (omega arith))
 
     with-timers : Timed old (tableWith c s n)

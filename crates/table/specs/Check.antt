@@ -18,20 +18,20 @@ use Rattle.table.specs.declared.Places.{Places}
 use Rattle.table.specs.declared.Table.{Table}
 use Rattle.table.specs.Table.{largestBound, longestHold, mostTimers}
 use Rattle.table.specs.Answer.{_or-else_, _and-then_}
-use Rattle.table.specs.Entries.{entriesFrom, filled, zeros}
+use Rattle.table.specs.Entries.{entriesFrom, filledTo, zeros}
 
-abbrev pub inRange : ℕ → ℕ → ℕ → Bool
-inRange low high x = (low ≤? x) && (x ≤? high)
+abbrev pub isBetween : ℕ → ℕ → ℕ → Bool
+isBetween low high x = (low ≤? x) && (x ≤? high)
 
 -- ---- One field
 
 -- 1, then 2: the field at `at` is whole, and has this tag and length.
-unfoldable pub named : Field → ℕ → ℕ → ℕ → Answer
-named RunOut at tag size = RunsOut at
-named (Whole found claimed) at tag size = (found =? tag) && (claimed =? size) or-else WrongTagOrLength at
+unfoldable pub expectedField : Field → ℕ → ℕ → ℕ → Answer
+expectedField RunOut at tag size = RunsOut at
+expectedField (Whole found claimed) at tag size = (found =? tag) && (claimed =? size) or-else WrongTagOrLength at
 
 unfoldable pub fieldAnswer : List ℕ → ℕ → ℕ → ℕ → Answer
-fieldAnswer s at tag size = named (fieldAt s at) at tag size
+fieldAnswer s at tag size = expectedField (fieldAt s at) at tag size
 
 -- A field of n entries: first the field itself, then entry by entry.
 unfoldable pub rowAnswer : List ℕ → ℕ → ℕ → ℕ → (ℕ → Answer) → ℕ → Answer
@@ -74,7 +74,7 @@ setsAnswer old s holds at n limit = rowAnswer s at 0x06 (4 * n) (setEntry old s 
 -- Field 07: timers, each a length and a region, a set of states. 13 at the length, then 12 at the region.
 unfoldable pub timerAnswer : (length region limit place : ℕ) → Answer
 timerAnswer length region limit place =
-    inRange 1 longestHold length or-else TimerOutOfRange place
+    isBetween 1 longestHold length or-else TimerOutOfRange place
     and-then region <? limit or-else UnknownMember (place + 4)
 
 abbrev pub timerEntry : List ℕ → (at limit : ℕ) → ℕ → Answer
@@ -93,14 +93,14 @@ boundIn s = number32At s 10
 
 abbrev pub countsInRange : Counts → Bool
 countsInRange c =
-    inRange 1 32 (c .states) && inRange 1 32 (c .inputs) && inRange 1 32 (c .outputs) && (c .initial <? c .states)
+    isBetween 1 32 (c .states) && isBetween 1 32 (c .inputs) && isBetween 1 32 (c .outputs) && (c .initial <? c .states)
 
 -- Field 01, and field 02.
 unfoldable pub countsAnswer : List ℕ → Answer
 countsAnswer s = fieldAnswer s 0 0x01 4 and-then countsInRange (countsIn s) or-else CountOutOfRange 0
 
 unfoldable pub boundAnswer : List ℕ → Answer
-boundAnswer s = fieldAnswer s 7 0x02 4 and-then inRange 1 largestBound (boundIn s) or-else BoundOutOfRange 7
+boundAnswer s = fieldAnswer s 7 0x02 4 and-then isBetween 1 largestBound (boundIn s) or-else BoundOutOfRange 7
 
 -- Where fields 04, 05 and 06 start, and where a table with holds ends. Field 03 starts at 14.
 abbrev pub nextField : Counts → ℕ
@@ -144,7 +144,7 @@ timerSetsAnswer c at n s =
 -- Fields 07 and 08, and the bytes after them, with as many timers as field 07 has room for.
 unfoldable pub timersAnswer : Counts → ℕ → List ℕ → Answer
 timersAnswer c n s =
-    inRange 1 mostTimers n or-else WrongTagOrLength (holdField c)
+    isBetween 1 mostTimers n or-else WrongTagOrLength (holdField c)
     and-then timersRow s (holdField c) n (2 ^ c .states)
     and-then timerSetsAnswer c (timerSets c n) n s
 
@@ -193,13 +193,13 @@ tableWith c s n = record {
   outputs = c .outputs;
   initial = c .initial;
   bound = boundIn s;
-  output = filled (byteEntry s 14) (c .states) (zeros 32);
-  next = filled (byteEntry s (nextField c)) (c .states * c .inputs) (zeros 1024);
-  hold = filled (wordEntry s (holdField c)) (if n =? 0 then c .states else 0) (zeros 32);
-  delayed = filled (wordEntry s (delayedField c)) (if n =? 0 then c .states else 0) (zeros 32);
+  output = filledTo (byteEntry s 14) (c .states) (zeros 32);
+  next = filledTo (byteEntry s (nextField c)) (c .states * c .inputs) (zeros 1024);
+  hold = filledTo (wordEntry s (holdField c)) (if n =? 0 then c .states else 0) (zeros 32);
+  delayed = filledTo (wordEntry s (delayedField c)) (if n =? 0 then c .states else 0) (zeros 32);
   timers = n;
-  timing = filled (wordEntry s (holdField c)) (2 * n) (zeros 8);
-  sets = filled (wordEntry s (timerSets c n)) (c .states * n) (zeros 128);
+  timing = filledTo (wordEntry s (holdField c)) (2 * n) (zeros 8);
+  sets = filledTo (wordEntry s (timerSets c n)) (c .states * n) (zeros 128);
 }
 
 abbrev pub tableOf : Counts → List ℕ → Table

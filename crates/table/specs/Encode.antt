@@ -6,6 +6,7 @@ use Rattle.wire.specs.Choice.{_=?_, if_then_else_}
 use Rattle.wire.specs.Encode.{bytes32, field}
 use Rattle.table.specs.declared.Table.{Table}
 
+-- Four bytes for each number.
 unfoldable pub words : List ℕ → List ℕ
 words [] = []
 words (w ∷ ws) = bytes32 w ++ words ws
@@ -16,8 +17,8 @@ timing t =
     if t .timers =? 0 then field 0x05 (words (take (t .states) (t .hold))) ++ field 0x06 (words (take (t .states) (t .delayed)))
     else field 0x07 (words (take (2 * t .timers) (t .timing))) ++ field 0x08 (words (take (t .states * t .timers) (t .sets)))
 
-unfoldable pub encode : Table → List ℕ
-encode t =
+unfoldable pub tableBytes : Table → List ℕ
+tableBytes t =
     field 0x01 (t .states ∷ t .inputs ∷ t .outputs ∷ t .initial ∷ [])
     ++ field 0x02 (bytes32 (t .bound))
     ++ field 0x03 (take (t .states) (t .output))

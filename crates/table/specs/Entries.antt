@@ -16,9 +16,14 @@ unfoldable pub values : (ℕ → ℕ) → ℕ → List ℕ
 values f zero = []
 values f (suc n) = values f n ++ f n ∷ []
 
+-- f 0 + f 1 + .. + f (n - 1)
+unfoldable pub total : (ℕ → ℕ) → ℕ → ℕ
+total f zero = 0
+total f (suc n) = total f n + f n
+
 -- An array whose first n places are filled.
-abbrev pub filled : (ℕ → ℕ) → ℕ → List ℕ → List ℕ
-filled f n array = values f n ++ drop n array
+abbrev pub filledTo : (ℕ → ℕ) → ℕ → List ℕ → List ℕ
+filledTo f n array = values f n ++ drop n array
 
 abbrev pub zeros : ℕ → List ℕ
 zeros n = replicate n 0

@@ -3,14 +3,14 @@
 ghost use mathlib.Core.Path.{_≡_};
 ghost use Prim.Native.Nat.{_+_, _*_, _<_, _≤_};
 ghost use lib.ListN.{length};
-ghost use Rattle.table.specs.Entries.{filled};
+ghost use Rattle.table.specs.Entries.{filledTo};
 ghost use Rattle.table.specs.Check.{byteEntry, wordEntry};
 use wire::number32;
 
 // n entries of one byte, of the field that starts at `at`.
 fn fill_bytes(s: &[u8], at: usize, n: usize, array: &mut [u8])
     requires { ⌜ (at + 3 + n ≤ length (now s)) × (n ≤ length (now array)) ⌝ }
-    ensures { λ _. ⌜ now (array .exit) ≡ filled (byteEntry (now (s .entry)) at) n (now (array .entry)) ⌝ }
+    ensures { λ _. ⌜ now (array .exit) ≡ filledTo (byteEntry (now (s .entry)) at) n (now (array .entry)) ⌝ }
 {
     let mut k = 0;
     while k < n {
@@ -22,7 +22,7 @@ fn fill_bytes(s: &[u8], at: usize, n: usize, array: &mut [u8])
 // n entries of four bytes. Where there are none, no field need be there.
 fn fill_words(s: &[u8], at: usize, n: usize, array: &mut [u32])
     requires { ⌜ (0 < n → at + 3 + 4 * n ≤ length (now s)) × (n ≤ length (now array)) ⌝ }
-    ensures { λ _. ⌜ now (array .exit) ≡ filled (wordEntry (now (s .entry)) at) n (now (array .entry)) ⌝ }
+    ensures { λ _. ⌜ now (array .exit) ≡ filledTo (wordEntry (now (s .entry)) at) n (now (array .entry)) ⌝ }
 {
     let mut k = 0;
     while k < n {
@@ -33,35 +33,35 @@ fn fill_words(s: &[u8], at: usize, n: usize, array: &mut [u32])
 
 pub fn fill_output(s: &[u8], at: usize, n: usize, array: &mut [u8; 32])
     requires { ⌜ (at + 3 + n ≤ length (now s)) × (n ≤ 32) ⌝ }
-    ensures { λ _. ⌜ now (array .exit) ≡ filled (byteEntry (now (s .entry)) at) n (now (array .entry)) ⌝ }
+    ensures { λ _. ⌜ now (array .exit) ≡ filledTo (byteEntry (now (s .entry)) at) n (now (array .entry)) ⌝ }
 {
     fill_bytes(s, at, n, array);
 }
 
 pub fn fill_next(s: &[u8], at: usize, n: usize, array: &mut [u8; 1024])
     requires { ⌜ (at + 3 + n ≤ length (now s)) × (n ≤ 1024) ⌝ }
-    ensures { λ _. ⌜ now (array .exit) ≡ filled (byteEntry (now (s .entry)) at) n (now (array .entry)) ⌝ }
+    ensures { λ _. ⌜ now (array .exit) ≡ filledTo (byteEntry (now (s .entry)) at) n (now (array .entry)) ⌝ }
 {
     fill_bytes(s, at, n, array);
 }
 
 pub fn fill_state(s: &[u8], at: usize, n: usize, array: &mut [u32; 32])
     requires { ⌜ (0 < n → at + 3 + 4 * n ≤ length (now s)) × (n ≤ 32) ⌝ }
-    ensures { λ _. ⌜ now (array .exit) ≡ filled (wordEntry (now (s .entry)) at) n (now (array .entry)) ⌝ }
+    ensures { λ _. ⌜ now (array .exit) ≡ filledTo (wordEntry (now (s .entry)) at) n (now (array .entry)) ⌝ }
 {
     fill_words(s, at, n, array);
 }
 
 pub fn fill_timing(s: &[u8], at: usize, n: usize, array: &mut [u32; 8])
     requires { ⌜ (0 < n → at + 3 + 4 * n ≤ length (now s)) × (n ≤ 8) ⌝ }
-    ensures { λ _. ⌜ now (array .exit) ≡ filled (wordEntry (now (s .entry)) at) n (now (array .entry)) ⌝ }
+    ensures { λ _. ⌜ now (array .exit) ≡ filledTo (wordEntry (now (s .entry)) at) n (now (array .entry)) ⌝ }
 {
     fill_words(s, at, n, array);
 }
 
 pub fn fill_sets(s: &[u8], at: usize, n: usize, array: &mut [u32; 128])
     requires { ⌜ (0 < n → at + 3 + 4 * n ≤ length (now s)) × (n ≤ 128) ⌝ }
-    ensures { λ _. ⌜ now (array .exit) ≡ filled (wordEntry (now (s .entry)) at) n (now (array .entry)) ⌝ }
+    ensures { λ _. ⌜ now (array .exit) ≡ filledTo (wordEntry (now (s .entry)) at) n (now (array .entry)) ⌝ }
 {
     fill_words(s, at, n, array);
 }

@@ -13,7 +13,7 @@ use Rattle.records.specs.declared.Record.{Record}
 use Rattle.records.specs.declared.Record.the-variants.{Change, Poll, Test, Tick, End}
 use Rattle.machine.specs.declared.Machine.{Machine}
 use Rattle.machine.specs.Machine.{start, after}
-use Rattle.machine.specs.Run.{Runs, moves, movesOf}
+use Rattle.machine.specs.Run.{Runs, moves, movesFrom}
 use Rattle.machine.proofs.Counts.{state-from}
 use Rattle.machine.proofs.Steps.{Taken}
 use Rattle.runs.proofs.Records.{phases, first-taken}
@@ -54,15 +54,15 @@ module _ (t : Table) (m : Machine) where
       (record { begun = omega (arith, p .begun); polled = λ l. omega (arith, p .polled l) }, omega (arith, stays (m .state)))
 
 module _ (t : Table) where
-  moves-from : (rs : List Record) (m last : Machine) → Polled m → Runs t m rs last → movesOf (m .state) rs + m .start ≤ last .time
-  unfolding movesOf
+  moves-from : (rs : List Record) (m last : Machine) → Polled m → Runs t m rs last → movesFrom (m .state) rs + m .start ≤ last .time
+  unfolding movesFrom
   moves-from [] m last p run = omega (arith, p .begun, ap (λ (x : Machine). x .time) run)
   moves-from (r ∷ rs) m last p run =
       let next = onward t m r (first-taken t m r rs last run) p in
       let rest = rw (state-from t m r (after t m r) (run .0)) at (moves-from rs (after t m r) last (next .0) (run .1)) in
       omega (arith, rest, next .1)
 
-  pub moves-in-time : (input : ℕ) (rs : List Record) (last : Machine) → Runs t (start (t .initial) input) rs last → movesOf (t .initial) rs ≤ last .time
+  pub moves-in-time : (input : ℕ) (rs : List Record) (last : Machine) → Runs t (start (t .initial) input) rs last → movesFrom (t .initial) rs ≤ last .time
   moves-in-time input rs last run =
       let first : Polled (start (t .initial) input) = record { begun = omega arith; polled = λ l. absurd (omega arith) } in
       omega (arith, moves-from rs (start (t .initial) input) last first run)

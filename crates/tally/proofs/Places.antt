@@ -22,7 +22,7 @@ use Rattle.machine.proofs.Counts.{state-from}
 use Rattle.machine.proofs.Steps.{Fits, fits-after}
 use Rattle.runs.proofs.Records.{not-both}
 use Rattle.tally.specs.declared.Tally.{Tally}
-use Rattle.tally.specs.Tally.{entriesFrom}
+use Rattle.tally.specs.Tally.{movesInto}
 use Rattle.tally.specs.Counting.{inputFrom, more, withRecord, countedFrom}
 use Rattle.tally.specs.Totals.{InTable}
 use Rattle.tally.proofs.Stretches.{input-from, spent}
@@ -133,8 +133,8 @@ module _ (t : Table) (good : WellFormed t) (k : ℕ) where
       omega (arith, rest, here)
 
   pub entries-at : (rs : List Record) (q a before : ℕ) → Within t q a rs → (y : Tally) → Sized y →
-      getD (countedFrom (t .inputs) q a before y rs .entries) k 0 ≡ getD (y .entries) k 0 + entriesFrom k q rs
-  unfolding countedFrom withRecord entriesFrom
+      getD (countedFrom (t .inputs) q a before y rs .entries) k 0 ≡ getD (y .entries) k 0 + movesInto k q rs
+  unfolding countedFrom withRecord movesInto
   entries-at [] q a before inside y sized = omega arith
   entries-at (r ∷ rs) q a before (state, present, next, others) y sized =
       let rest = entries-at rs (stateFrom q r) (inputFrom a r) (timeOf r) others _ (with-sized (t .inputs) q a before y r sized) in

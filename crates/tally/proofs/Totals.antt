@@ -12,19 +12,19 @@ use lib.ListN.{getD, List·getD-eq-default}
 use Rattle.wire.specs.Choice.{_=?_, _and_, if_then_else_}
 use Rattle.table.specs.declared.Table.{Table}
 use Rattle.table.specs.Table.{WellFormed}
-use Rattle.table.specs.Entries.{values}
-use Rattle.table.proofs.Values.{length-values, getD-values}
+use Rattle.table.specs.Entries.{values, total}
+use Rattle.table.proofs.Values.{length-values, getD-values, total-none, total-add}
 use Rattle.records.specs.declared.Record.{Record}
 use Rattle.records.specs.Record.{timeOf, latest}
 use Rattle.machine.specs.declared.Machine.{Machine}
 use Rattle.machine.specs.Machine.{start, after}
-use Rattle.machine.specs.Run.{Runs, stateFrom, movesOf}
+use Rattle.machine.specs.Run.{Runs, stateFrom, movesFrom}
 use Rattle.machine.proofs.Steps.{Fits, start-fits, fits-after}
 use Rattle.runs.specs.Slots.{slot, stateAt, inputAt}
 use Rattle.runs.proofs.Records.{split, not-both}
 use Rattle.runs.proofs.Slots.{slot-before, slot-after}
-use Rattle.tally.specs.Tally.{slotsBefore, dwellIn, slotsWith, entriesFrom, entriesInto, tallyOf}
-use Rattle.tally.specs.Totals.{total, InTable, AcceptedRecords}
+use Rattle.tally.specs.Tally.{slotsBefore, dwellIn, slotsWith, movesInto, entriesInto, tallyOf}
+use Rattle.tally.specs.Totals.{InTable, AcceptedRecords}
 use Rattle.tally.specs.Totals.{DwellSumsToEnd, PairsSumToDwell, EntriesSumToMoves, TallyIsSmall, PlacesOfTally, RestIsZero}
 use Rattle.tally.proofs.Places.{Within, within}
 use Rattle.tally.proofs.Moves.{moves-in-time}
@@ -32,11 +32,6 @@ use Rattle.tally.proofs.Moves.{moves-in-time}
 -- ---- Sums
 
 module _ (f : ℕ → ℕ) where
-  total-none : (n : ℕ) → ((k : ℕ) → k < n → f k ≡ 0) → total f n ≡ 0
-  unfolding total
-  total-none zero none = refl
-  total-none (suc n) none = omega (arith, total-none n (λ k h. none k (omega arith)), none n (omega arith))
-
   -- All but one are 0.
   total-one : (s n : ℕ) → s < n → ((k : ℕ) → (s ≡ k → ⊥) → f k ≡ 0) → total f n ≡ f s
   unfolding total
@@ -44,13 +39,8 @@ module _ (f : ℕ → ℕ) where
   total-one s (suc n) low others = go (eq-or-lt-of-le (le-of-suc-le-suc low)) (λ l. total-one s n l others)
     where
       go : (s ≡ n) ⊎ (s < n) → (s < n → total f n ≡ f s) → total f n + f n ≡ f s
-      go (inl e) rest = rw (e, total-none n (λ k h. others k (λ x. absurd (omega arith)))) (omega arith)
+      go (inl e) rest = rw (e, total-none f n (λ k h. others k (λ x. absurd (omega arith)))) (omega arith)
       go (inr l) rest = omega (arith, rest l, others n (λ x. absurd (omega arith)))
-
-total-add : (f g : ℕ → ℕ) (n : ℕ) → total (λ k. f k + g k) n ≡ total f n + total g n
-unfolding total
-total-add f g zero = refl
-total-add f g (suc n) = omega (arith, total-add f g n)
 
 -- ---- Slots
 
@@ -130,17 +120,17 @@ one-entry s p n low =
     go true e = rw (eq-eqb p s (sym (eqb-true s p e)))
     go false e = rw (ne-eqb p s (λ x. eqb-false s p e (sym x)))
 
-entries-from : (t : Table) (rs : List Record) (p a : ℕ) → Within t p a rs → total (λ q. entriesFrom q p rs) (t .states) ≡ movesOf p rs
-unfolding entriesFrom movesOf
+entries-from : (t : Table) (rs : List Record) (p a : ℕ) → Within t p a rs → total (λ q. movesInto q p rs) (t .states) ≡ movesFrom p rs
+unfolding movesInto movesFrom
 entries-from t [] p a inside = total-none (λ q. 0) (t .states) (λ k h. refl)
 entries-from t (r ∷ rs) p a (state, present, next, others) =
-    total-add (λ q. if (stateFrom p r =? q) and not (p =? q) then 1 else 0) (λ q. entriesFrom q (stateFrom p r) rs) (t .states)
+    total-add (λ q. if (stateFrom p r =? q) and not (p =? q) then 1 else 0) (λ q. movesInto q (stateFrom p r) rs) (t .states)
     ∙ rw (one-entry (stateFrom p r) p (t .states) next, entries-from t rs (stateFrom p r) _ others)
 
 pub entries-sum-to-moves : EntriesSumToMoves
 unfolding entriesInto
 entries-sum-to-moves t input rs T is =
-    total-add (λ q. if t .initial =? q then 1 else 0) (λ q. entriesFrom q (t .initial) rs) (t .states)
+    total-add (λ q. if t .initial =? q then 1 else 0) (λ q. movesInto q (t .initial) rs) (t .states)
     ∙ rw (one-slot true (t .initial) (t .states) (is .well-formed .initial), entries-from t rs (t .initial) input (inside-table t input rs T is)) (omega arith)
 
 -- ---- How large they are
@@ -153,8 +143,8 @@ module _ (q : ℕ) where
       go true e = rw (eqb-true s p e, not-both (p =? q)) (omega arith)
       go false e = at-most-one ((s =? q) and not (p =? q))
 
-  few-entries : (rs : List Record) (p : ℕ) → entriesFrom q p rs ≤ movesOf p rs
-  unfolding entriesFrom movesOf
+  few-entries : (rs : List Record) (p : ℕ) → movesInto q p rs ≤ movesFrom p rs
+  unfolding movesInto movesFrom
   few-entries [] p = omega arith
   few-entries (r ∷ rs) p = omega (arith, entry-is-move (stateFrom p r) p, few-entries rs (stateFrom p r))
 
@@ -199,8 +189,8 @@ unfolding slotsBefore
 no-slots zero passes never = refl
 no-slots (suc T) passes never = rw (never T, no-slots T passes never) (omega arith)
 
-no-entries : (t : Table) (q : ℕ) → t .states ≤ q → (rs : List Record) (p a : ℕ) → Within t p a rs → entriesFrom q p rs ≡ 0
-unfolding entriesFrom
+no-entries : (t : Table) (q : ℕ) → t .states ≤ q → (rs : List Record) (p a : ℕ) → Within t p a rs → movesInto q p rs ≡ 0
+unfolding movesInto
 no-entries t q past [] p a inside = refl
 no-entries t q past (r ∷ rs) p a (state, present, next, others) =
     rw (ne-eqb (stateFrom p r) q (λ x. absurd (omega arith)), no-entries t q past rs (stateFrom p r) _ others) (omega arith)

@@ -7,7 +7,7 @@ use Rattle.table.specs.declared.Table.{Table}
 use Rattle.table.specs.Entries.{values, zeros}
 use Rattle.records.specs.declared.Record.{Record}
 use Rattle.machine.specs.Run.{stateFrom}
-use Rattle.machine.specs.Walk.{Run, ran, tooLong, refused}
+use Rattle.machine.specs.Walk.{RunOverBytes, ran, tooLong, refused}
 use Rattle.runs.specs.Slots.{stateAt, inputAt}
 use Rattle.tally.specs.declared.Tally.{Tally}
 
@@ -25,13 +25,13 @@ module _ (t : Table) (input : ℕ) (rs : List Record) (T : ℕ) where
   slotsWith q a = slotsBefore T (λ k. (stateAt t input rs k =? q) and (inputAt t input rs k =? a))
 
 -- The records that lead to q from another state, where p is the state before them.
-unfoldable pub entriesFrom : (q p : ℕ) → List Record → ℕ
-entriesFrom q p [] = 0
-entriesFrom q p (r ∷ rs) = (if (stateFrom p r =? q) and not (p =? q) then 1 else 0) + entriesFrom q (stateFrom p r) rs
+unfoldable pub movesInto : (q p : ℕ) → List Record → ℕ
+movesInto q p [] = 0
+movesInto q p (r ∷ rs) = (if (stateFrom p r =? q) and not (p =? q) then 1 else 0) + movesInto q (stateFrom p r) rs
 
 -- The entry of the initial state at 0 is the first.
 unfoldable pub entriesInto : Table → List Record → (q : ℕ) → ℕ
-entriesInto t rs q = (if t .initial =? q then 1 else 0) + entriesFrom q (t .initial) rs
+entriesInto t rs q = (if t .initial =? q then 1 else 0) + movesInto q (t .initial) rs
 
 -- All of them. The pairs stand in rows by state, as the table's next states do.
 unfoldable pub tallyOf : Table → (input : ℕ) → List Record → (T : ℕ) → Tally
@@ -46,7 +46,7 @@ abbrev pub noTally : Tally
 noTally = record { dwell = zeros 32; pairs = zeros 1024; entries = zeros 32 }
 
 -- Of a run over bytes, which ends at the time of its last record.
-unfoldable pub tallyIn : Table → Run → Tally
+unfoldable pub tallyIn : Table → RunOverBytes → Tally
 tallyIn t (ran input taken last) = tallyOf t input taken (last .time)
 tallyIn t tooLong = noTally
 tallyIn t (refused refusal place) = noTally

@@ -2,22 +2,18 @@
 use mathlib.Core.Path.{_≡_}
 use mathlib.Core.List.{List, [], _∷_}
 use mathlib.Core.Bool.{true}
-use Prim.Native.Nat.{ℕ, zero, suc, _+_, _*_, _<_, _≤_}
+use Prim.Native.Nat.{ℕ, _+_, _*_, _<_, _≤_}
 use lib.ListN.{getD}
 use Rattle.table.specs.declared.Table.{Table}
 use Rattle.table.specs.Table.{WellFormed}
+use Rattle.table.specs.Entries.{total}
 use Rattle.records.specs.declared.Record.{Record}
 use Rattle.records.specs.Record.{latest}
 use Rattle.records.specs.Form.{journal}
-use Rattle.machine.specs.Run.{movesOf}
+use Rattle.machine.specs.Run.{movesFrom}
 use Rattle.machine.specs.Walk.{inTable}
 use Rattle.runs.specs.Accepted.{Accepted}
 use Rattle.tally.specs.Tally.{dwellIn, slotsWith, entriesInto, tallyOf}
-
--- f 0 + .. + f (n - 1)
-unfoldable pub total : (ℕ → ℕ) → (n : ℕ) → ℕ
-total f zero = 0
-total f (suc n) = total f n + f n
 
 -- The numbers of each record are the table's.
 abbrev pub InTable : Table → List Record → Type 0
@@ -44,7 +40,7 @@ PairsSumToDwell = (t : Table) (input : ℕ) (rs : List Record) (T : ℕ) → Acc
 -- Over all states the entries are the moves, and the one at 0.
 abbrev pub EntriesSumToMoves : Type 0
 EntriesSumToMoves = (t : Table) (input : ℕ) (rs : List Record) (T : ℕ) → AcceptedRecords t input rs T →
-    total (entriesInto t rs) (t .states) ≡ movesOf (t .initial) rs + 1
+    total (entriesInto t rs) (t .states) ≡ movesFrom (t .initial) rs + 1
 
 -- No number is above T + 1, and T is at most 2,000,000,000: a thousand journals stay far below 2^64.
 abbrev pub TallyIsSmall : Type 0

@@ -1,14 +1,14 @@
 -- The loop keeps `Moved`; from a set that is closed nothing leaves.
 use Prim.Native.Nat.{_-_}
 use borrow.Author.Needs.{needs}
-use Rattle.reaction.specs.Walks.{inRows}
+use Rattle.reaction.specs.Walks.{nextInRows}
 use Rattle.reaction.proofs.NextStates.{never-leaves}
 use Rattle.moves.proofs.Targets.{Moved, not-moved, one-move-more, all-moved}
 use Rattle.moves.proofs.next_times.Statement.{statement}
 use Rattle.moves.proofs.next_times.Tie as tie
 
 abbrev Inv-loop : tie.InvT-loop
-Inv-loop rows width states inputs moves set₀ k₀ set k = Moved (inRows rows width) width states inputs moves k set
+Inv-loop rows width states inputs moves set₀ k₀ set k = Moved (nextInRows rows width) width states inputs moves k set
 
 abbrev μ-loop : tie.MeasureT-loop
 μ-loop rows width states inputs moves set₀ k₀ set k = moves - k

@@ -9,7 +9,7 @@ use borrow.Author.Needs.{needs}
 use Rattle.wire.proofs.Choice.{both}
 use Rattle.reaction.proofs.Meaning.{stays}
 use Rattle.reaction.proofs.Findings.{can-walk, weights-fit}
-use Rattle.moves.specs.Answer.{passes?}
+use Rattle.moves.specs.Answer.{judgedPasses?}
 use Rattle.moves.specs.Moves.{rows}
 use Rattle.moves.proofs.Fitting.{Fits, table-passed, fits}
 use Rattle.moves.proofs.Whole.{times-are, steps, light, all-rows, largest-light, sum-is, begins, whole-is, no-moves, reaction-is, sums-are, path-is}
@@ -18,12 +18,12 @@ use Rattle.moves.proofs.react_judged.Statement.{statement}
 use Rattle.moves.proofs.react_judged.Tie as tie
 
 read-requires : tie.Need-read-requires
-read-requires c κs = table-passed _ _ _ _ _ _ (ap passes? (c .before .before .before .pre))
+read-requires c κs = table-passed _ _ _ _ _ _ (ap judgedPasses? (c .before .before .before .pre))
 
 fit : (c : tie.After-read) →
     let a = c .before .before .before .before .args in
     Fits (c .read .result) (a .states) (a .inputs) (a .moves) (length (a .sums .now)) (length (a .path .now))
-fit c = rw (c .read .ensures) (fits _ _ _ _ _ _ (ap passes? (c .before .before .before .before .pre)))
+fit c = rw (c .read .ensures) (fits _ _ _ _ _ _ (ap judgedPasses? (c .before .before .before .before .pre)))
 
 returns : tie.Need-returns
 returns c =

@@ -8,13 +8,13 @@ use borrow.Author.Needs.{needs}
 use Rattle.sets.specs.Sets.{member}
 use Rattle.sets.proofs.Members.{member-below}
 use Rattle.sets.proofs.Walk.{taken-in}
-use Rattle.reaction.specs.Walks.{inRows}
+use Rattle.reaction.specs.Walks.{nextInRows}
 use Rattle.reaction.proofs.NextStates.{OverInputs, no-input-yet, all-inputs, leaves-by, one-input-more}
 use Rattle.reaction.proofs.next_of_state.Statement.{statement}
 use Rattle.reaction.proofs.next_of_state.Tie as tie
 
 abbrev Inv-loop : tie.InvT-loop
-Inv-loop rows width states inputs state rest₀ target₀ rest target = OverInputs (inRows rows width) states inputs state rest target
+Inv-loop rows width states inputs state rest₀ target₀ rest target = OverInputs (nextInRows rows width) states inputs state rest target
 
 abbrev μ-loop : tie.MeasureT-loop
 μ-loop rows width states inputs state rest₀ target₀ rest target = rest

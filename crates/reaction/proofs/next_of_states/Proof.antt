@@ -2,13 +2,13 @@
 use borrow.Author.Needs.{needs}
 use native.Mathlib.Omega.{arith}
 use Rattle.sets.proofs.Walk.{taken-in}
-use Rattle.reaction.specs.Walks.{inRows}
+use Rattle.reaction.specs.Walks.{nextInRows}
 use Rattle.reaction.proofs.NextStates.{OverStates, no-state-yet, all-states, passed-up, one-state-more}
 use Rattle.reaction.proofs.next_of_states.Statement.{statement}
 use Rattle.reaction.proofs.next_of_states.Tie as tie
 
 abbrev Inv-loop : tie.InvT-loop
-Inv-loop rows width states inputs rest₀ target₀ rest target = OverStates (inRows rows width) states inputs rest target
+Inv-loop rows width states inputs rest₀ target₀ rest target = OverStates (nextInRows rows width) states inputs rest target
 
 abbrev μ-loop : tie.MeasureT-loop
 μ-loop rows width states inputs rest₀ target₀ rest target = rest

@@ -7,7 +7,7 @@ use lib.ListN.{length-set}
 use borrow.Author.Needs.{needs}
 use Rattle.moves.proofs.Worsts.{worst-in}
 use Rattle.moves.proofs.Along.{none-left, none-ahead, goes-on, path-length, put-last, put-first, one-row-less}
-use Rattle.reaction.specs.Walks.{inRows}
+use Rattle.reaction.specs.Walks.{nextInRows}
 use Rattle.moves.specs.Walks.{pathIn}
 use borrow.Fn.Kinds.{In}
 use borrow.Fn.PlainCycle.{Measures, is, falls, and}
@@ -127,8 +127,8 @@ input-step-returns t c =
     let a = start .args in
     let to = c .before .before .before .before .next-state in
     let done = c .before .before .state-step .ensures in
-    let short = path-length (inRows (a .next .now) (a .way .width)) (a .way) (a .sums .now) (a .left - 1) (to .result) in
-    put-first (a .path .now) (a .at) (a .input) (ap (λ q. a .input ∷ pathIn (inRows (a .next .now) (a .way .width)) (a .way) (a .sums .now) (a .left - 1) q) (to .ensures))
+    let short = path-length (nextInRows (a .next .now) (a .way .width)) (a .way) (a .sums .now) (a .left - 1) (to .result) in
+    put-first (a .path .now) (a .at) (a .input) (ap (λ q. a .input ∷ pathIn (nextInRows (a .next .now) (a .way .width)) (a .way) (a .sums .now) (a .left - 1) q) (to .ensures))
     (omega (arith, short, pre .3, pre .6)) (done .0) (done .1)
 
 -- src/paths.rt:30:16
@@ -298,7 +298,7 @@ state-step-returns-3 t c =
     let some : 0 < a .left = omega (arith, c .before .before .before .before .before .before .before .before .if1 .left) in
     let worst = c .before .before .before .before .before .before .worst-step in
     let done = c .before .before .input-step .ensures in
-    let short = path-length (inRows (a .next .now) (a .way .width)) (a .way) (a .sums .now) (a .left - 1) (inRows (a .next .now) (a .way .width) (a .state) (worst .result .member)) in
+    let short = path-length (nextInRows (a .next .now) (a .way .width)) (a .way) (a .sums .now) (a .left - 1) (nextInRows (a .next .now) (a .way .width) (a .state) (worst .result .member)) in
     put-first (a .path .now) (a .at) (a .state) (goes-on (start .pre .1 .0) _ _ _ some (worst .ensures) (c .before .before .before .before .if2 .left))
     (omega (arith, short, start .pre .1 .4)) (done .0) (done .1)
 
