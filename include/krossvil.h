@@ -141,8 +141,8 @@ enum krossvil_refusal {
 #define KROSSVIL_SHORT_MAX 65536u
 
 /* Of what is written: a buffer of so many bytes is never too short (proved). */
-#define KROSSVIL_SALVAGED_MAX 65531u  /* for krossvil_salvage, krossvil_run, krossvil_read_stamped and krossvil_lengthen */
-#define KROSSVIL_SHORTENED_MAX 49149u /* for krossvil_shorten */
+#define KROSSVIL_SALVAGED_MAX 65531u  /* for krossvil_salvage, krossvil_run and krossvil_read_stamped */
+#define KROSSVIL_SHORTENED_MAX 49149u /* for krossvil_shorten; for krossvil_lengthen KROSSVIL_JOURNAL_MAX */
 
 #define KROSSVIL_RUN_STACK 80000u /* bytes of stack that are enough for krossvil_run and krossvil_read_stamped */
 #define KROSSVIL_STACK 16000u     /* and for the other functions */
