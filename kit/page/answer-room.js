@@ -1,4 +1,4 @@
-/** The answer keeps its room, so that nothing below it moves while one steps, whatever is said of a record. */
+/** The answer keeps its room, so that nothing below it moves while one steps, whatever is said of a record, or types a mistake. */
 
 import { showAnswer } from './answer.js';
 import { byId, inTwoColumns, make } from './dom.js';
@@ -23,9 +23,11 @@ function longestOf({ trace }) {
  * Measures the answer itself, and what is said of records, in boxes like the answer's own.
  * @param {Page} page
  */
-export function keepRoom({ subject, said }) {
+export function keepRoom({ subject, said, rooms }) {
   const room = byId('answer');
-  room.style.minHeight = '';
+  const before = rooms.height('answer') > 0 ? `${rooms.height('answer')}px` : '';
+  room.style.maxHeight = said.mistakes.length > 0 ? before : '';
+  room.style.minHeight = before;
   if (!subject) return;
   const boxes = [null, ...(inTwoColumns() ? longestOf(subject) : [])].map((step) => {
     const box = make('div');

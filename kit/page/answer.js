@@ -77,7 +77,7 @@ export function sayAnswer(answers, subject) {
       spot, says: `${PANE_NAMES[spot.pane]}, line ${spot.line}: ${spot.says}`,
     }));
     const line = count === 1 ? 'A mistake in the text' : `${counted(count, 'mistake')} in the texts`;
-    return { ...NOTHING, look: 'mistake', line, about: 'not asked', meaning: 'the pictures are those of before, until this is mended', mistakes };
+    return { ...NOTHING, look: 'mistake', line, about: 'not asked', mistakes };
   }
   if (reading.table && tableRefused && tableExplanation) {
     return refused(answers, tableRefused, tableExplanation, reading.table, 'table', tableExplanation.blame.place);

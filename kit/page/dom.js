@@ -48,6 +48,11 @@ export function fill(element, ...children) {
   element.replaceChildren(...nodes.map((child) => (typeof child === 'string' ? visible(child) : /** @type {any} */ (child))));
 }
 
+/** @param {...string} ids  of elements in which nothing is left */
+export function empty(...ids) {
+  for (const id of ids) byId(id).textContent = '';
+}
+
 /**
  * A picture in the place of what the element shows. One that was shrunk to its room is shown in full size, so that its words can be read.
  * @param {Element} element @param {string} svg @param {number} [scale]  so many times as large as it was drawn

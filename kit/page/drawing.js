@@ -5,7 +5,7 @@ import { narrate } from '../explain.js';
 import { counted, thousands } from '../names.js';
 import { easierToRead, tablePicture } from '../table-picture.js';
 import { keepRoom } from './answer-room.js';
-import { byId, fill, inTwoColumns, show } from './dom.js';
+import { byId, empty, fill, inTwoColumns, show } from './dom.js';
 import { machineAt, showMachine } from './machine.js';
 import { showTools } from './toolbox.js';
 import { PANES } from './workspace.js';
@@ -34,27 +34,22 @@ function lookOf({ large, dark }, room) {
 }
 
 /**
- * Everything below the answer. While a text has a mistake the old pictures stay, dimmed.
+ * Everything below the answer: what there is an answer for, and nothing else.
  * @param {Page} page
  */
 export function draw(page) {
-  const { subject, answers } = page;
-  const stale = answers.reading.mistakes.length > 0;
-  for (const room of document.querySelectorAll('#pictures, #automaton-beside, #reaction-panel')) {
-    room.classList.toggle('stale', stale);
-    room.toggleAttribute('inert', stale);
-  }
+  const { subject, answers, rooms } = page;
+  if (!subject) empty('diagram', 'machine', 'where');
+  if (!answers.decoded) empty('automaton', 'reaction-picture');
+  rooms.begin(page);
   showTools(page);
-  if (stale) {
-    for (const button of document.querySelectorAll('.stepping button')) button.toggleAttribute('disabled', true);
-    return;
-  }
-  for (const room of document.querySelectorAll('#diagram, #machine, .stepping')) room.toggleAttribute('hidden', !subject);
+  for (const id of ['diagram', 'machine', 'stepping']) rooms.set(id, subject !== null);
+  rooms.set('reaction-panel', answers.decoded !== null);
   placeAutomaton(page);
-  byId('pictures').hidden = !subject && byId('automaton-below').hidden;
-  byId('reaction-panel').hidden = !answers.decoded;
+  byId('pictures').hidden = ['diagram', 'machine', 'automaton-below'].every((id) => byId(id).hidden);
   page.reaction.update(answers);
   drawStep(page);
+  rooms.end();
 }
 
 /**
@@ -62,15 +57,15 @@ export function draw(page) {
  * @param {Page} page
  */
 function placeAutomaton(page) {
-  const { decoded } = page.answers;
-  const slots = [byId('automaton-beside'), byId('automaton-below')];
-  for (const slot of slots) slot.hidden = !decoded;
+  const { rooms, answers: { decoded } } = page;
+  const slots = ['automaton-beside', 'automaton-below'];
+  for (const slot of slots) rooms.set(slot, decoded !== null);
   if (!decoded) return;
-  slots[0].append(byId('automaton'), byId('show-as'));
+  byId(slots[0]).append(byId('automaton'), byId('show-as'));
   drawAutomaton(page, decoded);
   const k = fitsBeside(page) ? 0 : 1;
-  slots[k].append(byId('automaton'), byId('show-as'));
-  slots[1 - k].hidden = true;
+  byId(slots[k]).append(byId('automaton'), byId('show-as'));
+  byId(slots[1 - k]).hidden = true;
 }
 
 /** @param {Page} page */
@@ -106,10 +101,16 @@ export function drawStep(page) {
   if (answers.decoded) drawAutomaton(page, answers.decoded);
 }
 
+/**
+ * Does the automaton show the machine of a journal, or will it again once a mistake in that is mended?
+ * @param {Page} page
+ */
+const showsMachine = ({ subject, said, rooms }) => subject !== null || (said.mistakes.length > 0 && rooms.height('machine') > 0);
+
 /** @param {Page} page @param {Table} table */
 function drawAutomaton(page, table) {
   const { scale, ...look } = lookOf(page, byId('automaton'));
-  const lit = page.subject ? litAt(shownStep(page)) : { path: page.reaction.path };
+  const lit = showsMachine(page) ? litAt(shownStep(page)) : { path: page.reaction.path };
   show(byId('automaton'), tablePicture(table, { show: page.show, lit, ...look }), scale);
   fill(byId('show-as'), `Show the ${otherPicture(page, table)}`);
 }
@@ -134,11 +135,11 @@ export function showOther(page) {
  * @param {Page} page
  */
 export function drawWay(page) {
-  const { subject, answers: { decoded }, reaction: { path } } = page;
+  const { answers: { decoded }, reaction: { path } } = page;
   const room = byId('reaction-picture');
-  room.hidden = !subject || path.length === 0;
+  room.hidden = !showsMachine(page) || path.length === 0;
   if (!decoded) return;
-  if (!subject) drawAutomaton(page, decoded);
+  if (!showsMachine(page)) drawAutomaton(page, decoded);
   else if (path.length > 0) {
     const { scale, ...look } = lookOf(page, byId('automaton'));
     show(room, tablePicture(decoded, { show: page.show, title: 'The longest way', lit: { path }, ...look }), scale);

@@ -11,9 +11,10 @@ import { tooLong } from './limits.js';
 import { saidAt } from './machine.js';
 import { markTexts, showBadges, showFoot } from './marks.js';
 import { ReactionPanel } from './reaction.js';
+import { Rooms } from './rooms.js';
 import { lookAtLine } from './stepping.js';
 import { Together } from './together.js';
-import { closeOld, emptyPictures, showNothing } from './unanswered.js';
+import { closeOld, showNothing } from './unanswered.js';
 import { PANES, ask } from './workspace.js';
 
 /** @typedef {import('../types.js').Library} Library */
@@ -57,6 +58,7 @@ export class Page {
     this.large = false;
     this.dark = false;
     this.editors = /** @type {Record<Pane, Editor>} */ (Object.fromEntries(PANES.map((pane) => [pane, this.#editor(pane)])));
+    this.rooms = new Rooms();
     this.together = new Together(this);
     /** Files and links are opened one after the other. @type {Promise<void>} */
     this.opening = Promise.resolve();
@@ -94,7 +96,8 @@ export class Page {
   /** Something was typed: the answer comes at once, pictures with the next frame. */
   #typed() {
     byId('examples').value = '';
-    this.notice('');
+    this.rooms.note();
+    this.notice('', this.rooms.height('notice'));
     this.title = changed(this.title);
     this.step = { selected: null, stepping: false };
     this.later('link', LINK_LATER, () => carry(this));
@@ -130,8 +133,8 @@ export class Page {
     this.step = { selected: null, stepping: false };
     this.show = null;
     this.turnTo(pane);
+    this.rooms.forget();
     this.answer();
-    if (this.answers.reading.mistakes.length > 0) emptyPictures();
     requestAnimationFrame(() => this.#revealWrong());
   }
 
@@ -227,8 +230,9 @@ export class Page {
     showAnswer(byId('answer'), said, (spot) => this.go(spot), inTwoColumns() ? about : null);
   }
 
-  /** @param {string} says */
-  notice(says) {
+  /** @param {string} says @param {number} [height]  at least */
+  notice(says, height = 0) {
     fill(byId('notice'), says);
+    byId('notice').style.minHeight = `${height}px`;
   }
 }

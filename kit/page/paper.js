@@ -108,6 +108,6 @@ export function writePaper(page) {
   if (said === UNSAID) return fill(room, make('h1', {}, title), make('p', {}, byId('answer').innerText));
   const step = subject?.trace.steps[selected ?? -1] ?? null;
   fill(room, make('h1', {}, title), answerOf(said, subject && step && saidAt(subject.trace, step)),
-    ...(answers.reading.mistakes.length === 0 ? picturesOf(page, step) : []),
+    ...picturesOf(page, step),
     make('div', { class: 'texts' }, PANES.map((each) => textOf(each, texts[each], answers, said))));
 }

@@ -20,7 +20,7 @@ export function select(page, number, stepping = true) {
   page.say();
   const line = selected === null ? 0 : subject.lines[selected];
   if (stepping && line > 0 && page.pane === subject.kind) page.editors[subject.kind].reveal(line);
-  if (page.answers.reading.mistakes.length === 0) drawStep(page);
+  drawStep(page);
 }
 
 /**

@@ -11,7 +11,7 @@ import { RUN, TOOLS } from './tools.js';
 export function showTools(page) {
   const { answers } = page;
   const fitting = answers.reading.mistakes.length > 0 ? [] : TOOLS.filter((tool) => tool.fits(answers));
-  byId('tools-panel').hidden = fitting.length === 0;
+  page.rooms.set('tools-panel', fitting.length > 0);
   fill(byId('h-tools'), answers.tableRefused ? 'With this table' : 'With this journal');
   const key = fitting.map(({ id }) => id).join(' ');
   if (byId('tools').dataset.shown === key) return;

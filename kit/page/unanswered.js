@@ -1,10 +1,10 @@
 /** Nothing is answered: whatever stands on the page of an answer before is taken away, and sentences say why. */
 
-import { byId, closeMenu, fill, make } from './dom.js';
+import { byId, closeMenu, empty, fill, make } from './dom.js';
 
 const SHOWS_ANSWERS = ['diagram', 'machine', 'automaton', 'where', 'step-short', 'spoken', 'tools', 'tool-answer', 'reaction-answer',
   'reaction-picture', 'pane-says', 'save-list', 'together-list', 'paper'];
-const PICTURES = '#pictures, #automaton-beside, #automaton-below, #reaction-panel, .stepping';
+const PICTURES = '#pictures, #automaton-beside, #automaton-below, #reaction-panel, #stepping';
 const OTHERS = '#tools-panel, #together, #run';
 
 /** @param {string} rooms */
@@ -20,9 +20,9 @@ export function closeOld() {
   byId('link-box').close();
 }
 
-/** Pictures of texts that are no longer there. */
-export function emptyPictures() {
-  for (const id of ['diagram', 'machine', 'automaton', 'reaction-answer', 'reaction-picture']) byId(id).textContent = '';
+/** Pictures, and their rooms. */
+function emptyPictures() {
+  empty('diagram', 'machine', 'automaton', 'reaction-answer', 'reaction-picture');
   hide(PICTURES);
 }
 
@@ -34,7 +34,7 @@ export function showNothing(sentences, again = null) {
   const room = byId('answer');
   room.className = 'answer mistake';
   room.textContent = 'Nothing is answered';
-  for (const id of SHOWS_ANSWERS) byId(id).textContent = '';
+  empty(...SHOWS_ANSWERS);
   for (const badge of document.querySelectorAll('.badge')) badge.textContent = '';
   delete byId('tools').dataset.shown;
   emptyPictures();

@@ -125,7 +125,7 @@ test('of several journals each has its verdict, and one after the other can be h
   assert.equal(await tab.value("document.activeElement === document.querySelectorAll('#together button')[1]"), true);
   await tab.click('#together li:nth-child(3) button');
   assert.equal(await tab.text(VERDICT), 'A mistake in the text');
-  assert.equal(await pictures(tab), 0, 'no pictures of another journal');
+  assert.equal(await tab.value("document.querySelectorAll('#diagram svg, #machine > *').length"), 0, 'no pictures of another journal');
   await tab.click('#undo');
   assert.equal(await tab.text(VERDICT), lines[1]);
   await caretBehind(tab, 'table', 'krossvil table');

@@ -154,7 +154,7 @@ const FAINT = `(() => {
     .reduce((sum, each, k) => sum + each * [0.2126, 0.7152, 0.0722][k], 0);
   const ground = (element) => { for (let each = element; each; each = each.parentElement) { const colour = getComputedStyle(each).backgroundColor;
     if ((parts(colour)[3] ?? 1) > 0) return colour; } return 'rgb(255, 255, 255)'; };
-  const seen = ${WORDS}.filter((each) => !each.closest('svg, .stale, :disabled'));
+  const seen = ${WORDS}.filter((each) => !each.closest('svg, :disabled'));
   return { count: seen.length, faint: seen.map((each) => { const [a, b] = [light(getComputedStyle(each).color), light(ground(each))];
     return [each.outerHTML.slice(0, 80), (Math.max(a, b) + 0.05) / (Math.min(a, b) + 0.05)]; }).filter(([, ratio]) => ratio < 4.5) };
 })()`;

@@ -10,8 +10,8 @@ import { NOTHING, dropMade, made, partsOf, pictures } from './page-given.js';
 import { VERDICT, caretBehind, choose, expected, open } from './page-world.js';
 
 /** Functions that take an answer away, or hear of a fault: they have to be believed. */
-const BELIEVED = ['page/dom.js byId', 'page/page.js unanswered', 'page/page.js #forget', 'page/page.js texts', 'page/held.js drop',
-  'page/workspace.js noAnswers', 'page/unanswered.js showNothing', 'page/unanswered.js emptyPictures', 'page/unanswered.js hide',
+const BELIEVED = ['page/dom.js byId', 'page/dom.js empty', 'page/page.js unanswered', 'page/page.js #forget', 'page/page.js texts',
+  'page/held.js drop', 'page/workspace.js noAnswers', 'page/unanswered.js showNothing', 'page/unanswered.js emptyPictures', 'page/unanswered.js hide',
   'page/net.js sayFault', 'page/editor.js value', 'page/editor.js bare'];
 
 test('a fault in any function of the page leaves nothing of an answer', async (t) => {
@@ -57,7 +57,6 @@ test('what was made of texts goes when they change', async (t) => {
   assert.equal(await tab.value("document.getElementById('link-box').open"), false);
   await caretBehind(tab, 'table', 'krossvil table');
   await tab.type('x');
-  assert.equal(await tab.value("document.querySelectorAll('#pictures[inert], #automaton-beside[inert], #reaction-panel[inert]').length"), 3);
   await tab.value("document.querySelector('#reaction-states input').click()");
   assert.ok(!/at most/.test(await tab.text('#reaction-answer')), 'no reaction time of another table');
   await dropMade(tab, [['b.kv', JSON.stringify('krossvil table\nnothing\n')]]);
