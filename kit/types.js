@@ -175,9 +175,9 @@
  *
  * @typedef {Object} Explanation
  * @property {string[]} sentences        what is wrong, with the names and numbers of the case
- * @property {string|null} slip          the usual slip, where an error of students explains the whole journal, or either of two does
- * @property {SlipName|null} slipName    the one that does
- * @property {SlipName[]} [either]       the two of which either does
+ * @property {string|null} slip          the usual slip, where an error of students explains the whole journal, or all that do
+ * @property {SlipName|null} slipName    the only one that does
+ * @property {SlipName[]} [either]       where several do, all of them
  * @property {number|null} wanted        for a 28 the value that the machine has
  * @property {{place: number, length: number}} blame   the bytes to point at, in what was refused
  * @typedef {'hold-restarted'|'old-entry'|'hold-reached'|'wrong-instant'|'move-at-test'|'on-delay'|'hold-ignored'} SlipName

@@ -19,7 +19,7 @@ import { SLIPS } from './slips.js';
 /** @typedef {import('./slips.js').Slip} Slip */
 /** @typedef {import('./slips.js').Mistaken} Mistaken */
 
-/** @typedef {{names: SlipName[], says: string}} Cause  one name, or two of which either may be the cause */
+/** @typedef {{names: SlipName[], says: string}} Cause  one name, or several of which any may be the cause */
 
 /** @type {Map<string, string>} */
 const NEXT = new Map([['poll', 'test'], ['test', 'tick'], ['tick', 'poll']]);
@@ -110,16 +110,24 @@ function explaining(trace, step) {
 }
 
 /**
- * The slip that likely led to a refused verdict or state, or the two of which either may have; null if none explains the journal, or if
- * so many do that nothing is said by naming them.
+ * The slip that likely led to a refused verdict or state, or all of which any may have; null if none explains the journal.
  * @param {Trace} trace @param {Step} step
  * @returns {Cause|null}
  */
 export function causeOf(trace, step) {
   const causes = explaining(trace, step);
-  if (causes.length === 0 || causes.length > 2) return null;
+  if (causes.length === 0) return null;
   const took = causes.map(({ slip, at }) => slip.took(at));
-  const is = new Set(causes.map(({ slip, at }) => slip.is(at)));
+  const is = [...new Set(causes.map(({ slip, at }) => slip.is(at)))];
+  return { names: causes.map(({ slip }) => slip.name), says: sayCauses(took, is) };
+}
+
+/**
+ * Of three or more only what was done: what is right of each would hide it.
+ * @param {string[]} took @param {string[]} is
+ */
+function sayCauses(took, is) {
+  if (took.length > 2) return `These records are what any of these slips would make: ${took.join('; ')}.`;
   const what = took.length === 1 ? took[0] : `either ${took[0]}, or ${took[1]}`;
-  return { names: causes.map(({ slip }) => slip.name), says: `${what}. ${[...is].join(' ')}` };
+  return `The usual slip: ${what}. ${is.join(' ')}`;
 }

@@ -198,9 +198,9 @@ export function explainTrace(trace) {
   const { sentences, slip } = sentence({ trace, step, record: step.record, machine });
   return {
     sentences,
-    slip: slip ? say`The usual slip: ${slip.says}` : null,
+    slip: slip?.says ?? null,
     slipName: slip?.names.length === 1 ? slip.names[0] : null,
-    ...(slip?.names.length === 2 ? { either: slip.names } : {}),
+    ...(slip && slip.names.length > 1 ? { either: slip.names } : {}),
     wanted: ownValue(trace, step),
     blame: blame(trace, step.record),
   };

@@ -52,6 +52,9 @@ test('a refusal is shown at its line, with sentences and the usual slip', async 
     + '7 poll no_train; 7 test free; 8 tick idle; 8 end';
   const two = { 'two.kv': `${sample('classroom').split('\nkrossvil ')[0]}\nkrossvil journal\n${records.replaceAll('; ', '\n')}\n` };
   assert.deepEqual((await ask(['check', 'two.kv', '--json'], two)).lines[0].either, ['hold-reached', 'wrong-instant']);
+  const three = { 'three.kv': two['two.kv'].replace('2 test free', '1 test free') };
+  assert.match((await ask(['check', 'three.kv'], three)).out, /^ {2}These records are what any of these slips would make: the hold was taken to end /m);
+  assert.deepEqual((await ask(['check', 'three.kv', '--json'], three)).lines[0].either, ['hold-reached', 'wrong-instant', 'move-at-test']);
   const fromBytes = await ask(['check', 'table.bin', 'changed.bin', '--names', 'classroom.kv'], FILES);
   assert.match(fromBytes.out, /8 {2}test {3}free +# at byte 76\n.*state 'busy'/);
   assert.equal(fromBytes.err, 'Names are those of classroom.kv.\n');

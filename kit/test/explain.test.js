@@ -83,8 +83,10 @@ const REACHED = 'input train; 1 poll train; 1 test free; 1 tick busy; 2 change n
   + '6 poll no_train; 6 test free; 6 tick idle; ';
 const TO_PURGE = 'input off; 1 change heat; 2 poll heat; 2 test free; 3 tick purge; 5 poll heat; 6 test held; 7 tick purge; 9 poll heat; '
   + '10 test held; 11 tick purge; 12 poll heat; 13 test held; 14 tick purge; ';
+const THREE = new RegExp('^These records are what any of these slips would make: the hold was taken to end when it is reached; '
+  + 'the hold was measured at the tick, at 8; the state was changed at the test, at 1\\.$');
 const SLIPS = [
-  ['one test, which three explain', HEAD, null, `${TO_BUSY} 4 poll no_train; 4 test held; 5 tick busy; 7 poll no_train; 7 test free; `
+  ['one test, which three explain', HEAD, THREE, `${TO_BUSY} 4 poll no_train; 4 test held; 5 tick busy; 7 poll no_train; 7 test free; `
     + '8 tick idle; 8 end'],
   ['reached, or measured at the tick', HEAD, /: either the hold was taken to end when it is reached, or the hold was measured at the tick, at 8. A/,
     `${LATE_TO_BUSY} 4 poll no_train; 4 test held; 5 tick busy; 7 poll no_train; 7 test free; 8 tick idle; 8 end`],
@@ -122,6 +124,7 @@ test(`slips that have no example of their own: ${SLIPS.length}`, () => {
     if (says) assert.match(slip ?? '', says, what);
     else assert.equal(slip, null, what);
     if (slip?.includes(': either ')) assert.deepEqual([slipName, either], [null, ['hold-reached', 'wrong-instant']], what);
+    else if (says === THREE) assert.deepEqual([slipName, either], [null, ['hold-reached', 'wrong-instant', 'move-at-test']], what);
     else assert.deepEqual([slipName !== null, either], [slip !== null, undefined], what);
   }
 });
