@@ -4,6 +4,17 @@
 
 #include <stdint.h>
 #include <stdio.h>
+#include <sys/stat.h>
+
+/* An output that is the input, by any name or link, is refused: it may be the only copy. */
+static inline int apart(const char *input, const char *output)
+{
+    struct stat in, out;
+    if (stat(input, &in) != 0 || stat(output, &out) != 0 || in.st_dev != out.st_dev || in.st_ino != out.st_ino || !S_ISREG(out.st_mode))
+        return 1;
+    fprintf(stderr, "%s is %s, which would be lost; name another file\n", output, input);
+    return 0;
+}
 
 /* The first bytes of a file, as many as there is room for. */
 static inline int load(const char *path, uint8_t *bytes, size_t room, size_t *size)

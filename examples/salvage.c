@@ -21,6 +21,8 @@ int main(int count, char **words)
         fprintf(stderr, "usage: salvage TABLE JOURNAL NEW\n");
         return 2;
     }
+    if (!apart(words[1], words[3]) || !apart(words[2], words[3]))
+        return 2;
     if (!load(words[1], table, sizeof table, &table_size) || !load(words[2], journal, sizeof journal, &size))
         return 2;
 

@@ -21,6 +21,8 @@ int main(int count, char **words)
         fprintf(stderr, "usage: unstamp STAMPED JOURNAL\n");
         return 2;
     }
+    if (!apart(words[1], words[2]))
+        return 2;
     if (!load(words[1], stamped, sizeof stamped, &size))
         return 2;
 

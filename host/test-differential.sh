@@ -149,12 +149,22 @@ hosts() { # FOLDER STATUS: on its table and stimulus the host prints its host.tx
 hosts examples/classroom 0
 hosts examples/gas-burner 1 # the calculator takes no timers
 
-rewrites() { # 'PROGRAM WORDS' FILE LINE NEW: run with the words on the file in its place, it gives the line and the bytes of NEW
+keeps() { # PROGRAM WORDS: it does not write over the file that it reads, under its own name or another
+    local name
+    ln -sf file.bin "$out/link.bin"
+    for name in file.bin link.bin; do
+        "${run[@]}" "$out/$1" "${@:2}" "$out/file.bin" "$out/$name" 2>"$out/kept.txt"
+        [ "$?" -eq 2 ] && grep -q 'would be lost; name another file$' "$out/kept.txt" || return 1
+    done
+}
+
+rewrites() { # 'PROGRAM WORDS' FILE LINE NEW: run with the words on the file it gives the line and the bytes of NEW, or writes nothing
     local printed words
     read -ra words <<<"$1"
     cp "$2" "$out/file.bin"
-    printed=$("${run[@]}" "$out/${words[0]}" "${words[@]:1}" "$out/file.bin" "$out/file.bin")
-    if [ "$printed" = "$3" ] && cmp "$out/file.bin" "$4"; then
+    cp "$2" "$out/new.bin"
+    printed=$("${run[@]}" "$out/${words[0]}" "${words[@]:1}" "$out/file.bin" "$out/new.bin")
+    if [ "$printed" = "$3" ] && cmp "$out/new.bin" "$4" && keeps "${words[@]}" && cmp "$out/file.bin" "$2"; then
         echo "$2: $printed"
         passed=$((passed + 1))
     else
