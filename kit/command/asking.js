@@ -32,6 +32,9 @@ export class Asking {
     this.options = options;
     this.json = options.json === true;
     this.plain = options.plain === true;
+    if (this.json && options.output !== undefined && io.isOutput(options.output)) {
+      throw new Trouble('with --json the standard output has objects alone: give -o FILE');
+    }
     const toOutput = writes && (options.output === undefined || options.output === '-');
     this.terminal = new Terminal(io, { plain: this.plain, beside: toOutput && !this.json });
     this.sources = new Sources(io, options.output !== undefined);

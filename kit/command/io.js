@@ -14,6 +14,8 @@ import { Trouble } from './trouble.js';
  * @property {(path: string, limit: number, noted: boolean) => Uint8Array} read   `-` is the standard input; no more than the limit is read,
  *                                                                   and what was read may be overwritten in memory by the next reading.
  *                                                                   A file that is noted is never written to
+ * @property {(path: string) => void} keep                           a file that is never written to, as if it had been read
+ * @property {(path: string) => boolean} isOutput                    is it the standard output, by any name?
  * @property {(folder: string) => string[]} list                     its files
  * @property {(outputs: import('./output-files.js').Output[]) => void} write   all of them or none, and none over what was read
  * @property {(data: Uint8Array|string) => void} print               to the standard output
@@ -118,6 +120,16 @@ function read(path, limit, noted) {
   }
 }
 
+/** @param {string} path */
+function keep(path) {
+  const file = openSync(path, 'r');
+  inputs.note(file, path);
+  closeSync(file);
+}
+
+/** @param {string} path */
+const isOutput = (path) => path === '-' || orTrouble(path, () => isOpenAs(path, OUTPUT));
+
 /**
  * The files of a folder by their names: no hidden ones, and no folders, pipes or devices, since those would not end.
  * @param {string} folder
@@ -134,7 +146,7 @@ function list(folder) {
 function write(outputs) {
   for (const [path] of outputs) inputs.refuse(path);
   const [[path, data], ...others] = outputs;
-  if (others.length === 0 && orTrouble(path, () => isOpenAs(path, OUTPUT))) waiting.add(data);
+  if (others.length === 0 && isOutput(path)) waiting.add(data);
   else writeWhole(outputs);
 }
 
@@ -154,6 +166,8 @@ function convert(tool, args, input) {
 /** @type {Io} */
 export const realIo = {
   read: (path, limit, noted) => orTrouble(path === '-' ? 'standard input' : path, () => read(path, limit, noted)),
+  keep: (path) => orTrouble(path, () => keep(path)),
+  isOutput,
   list: (folder) => orTrouble(folder, () => list(folder)),
   write,
   print: (data) => waiting.add(data),

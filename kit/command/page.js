@@ -57,6 +57,7 @@ export function page(asking) {
   if (asking.json && asking.options.output === undefined) throw new Trouble('with --json give -o FILE');
   const file = madeFile('krossvil.html');
   if (!file) throw new Trouble('the page is not built yet: run kit/page/build');
+  asking.io.keep(file);
   const html = readFileSync(file, 'utf8');
   if (asking.files.length === 0) put(asking, html);
   else {

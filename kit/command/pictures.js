@@ -53,7 +53,7 @@ function said(asking, file) {
  * @param {Asking} asking
  */
 function refuseMixing(asking) {
-  if (asking.json && (asking.options.output === undefined || asking.options.output === '-')) throw new Trouble('with --json give -o FILE');
+  if (asking.json && asking.options.output === undefined) throw new Trouble('with --json give -o FILE');
 }
 
 /**

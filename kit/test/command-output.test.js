@@ -8,6 +8,7 @@ import {
 import { tmpdir } from 'node:os';
 import { join } from 'node:path';
 import { after, test } from 'node:test';
+import { fileURLToPath } from 'node:url';
 import { readText } from '../notation.js';
 import { COMMAND } from './command-world.js';
 import { sample } from './core.js';
@@ -57,6 +58,35 @@ test('an output that is an input, by any name or link, is refused before anythin
     assert.deepEqual([line, code, out], [line, 2, '']);
     assert.match(err, /^krossvil: -o \S+: this is .+, which was read and would be lost; name another file\n$/m, line);
     assert.deepEqual(contents(folder), before, line);
+  }
+});
+
+test('with --json nothing but objects goes to the standard output: what is made needs a file of its own', () => {
+  const { folder, shell } = room();
+  const before = contents(folder);
+  const lines = ['run run.kv', 'salvage torn.kv', 'text table.bin', 'bytes run.kv --as table', 'picture run.kv', 'draw run.kv', 'page run.kv',
+    'wave run.kv', 'dwell run.kv', 'short run.kv'];
+  for (const line of lines) {
+    for (const output of ['-o -', '-o /dev/stdout', '--output=-']) {
+      const { code, out, err } = shell(`krossvil ${line} --json ${output}`);
+      assert.deepEqual([line, code, err], [line, 2, '']);
+      const says = 'with --json the standard output has objects alone: give -o FILE';
+      assert.deepEqual(JSON.parse(out), { answer: 'not asked', says: [says] }, `${line} ${output}`);
+    }
+    assert.deepEqual(contents(folder), before, line);
+  }
+});
+
+test('the page is not written over the page that the command has', () => {
+  const { at, shell } = room();
+  const own = fileURLToPath(new URL('../../target/kit/krossvil.html', import.meta.url));
+  const before = readFileSync(own);
+  symlinkSync(own, at('page.html'));
+  for (const line of [`page -o ${own}`, `page run.kv -o ${own}`, 'page run.kv -o page.html']) {
+    const { code, err } = shell(`krossvil ${line}`);
+    assert.equal(code, 2, line);
+    assert.match(err, /this is .*krossvil\.html, which was read and would be lost; name another file\n$/, line);
+    assert.ok(readFileSync(own).equals(before), line);
   }
 });
 

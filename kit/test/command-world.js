@@ -23,6 +23,8 @@ export async function ask(args, files = {}, world = {}) {
       if (!Object.hasOwn(written, path)) throw new Trouble(`${path}: no such file`);
       return bytesOf(written[path]).subarray(0, limit);
     },
+    keep() {},
+    isOutput: (path) => path === '-',
     list: () => [],
     write(outputs) { Object.assign(written, Object.fromEntries(outputs)); },
     print(data) { printed.out.push(bytesOf(data)); },
