@@ -31,7 +31,8 @@ export function showBadges({ reading, tableRefused, decoded, journal, stimulus }
  * @param {Page} page
  */
 export function showFoot({ answers, pane, texts }) {
-  const part = answers.reading[pane];
+  const { [pane]: read, place } = answers.reading;
+  const part = read && place(read.line).pane === pane ? read : null;
   const left = pane === 'table' ? '' : '; at the left line and byte';
   const empty = texts[pane].trim() === '' ? `Empty. Begin with the words: krossvil ${pane}` : '';
   fill(byId('pane-says'), part ? `${counted(part.bytes.length, 'byte')}${left}` : empty);
@@ -48,22 +49,22 @@ export function markTexts({ answers, subject, said, step, editors }) {
     /** @type {import('./editor.js').Mark[]} */
     const marks = answers.reading.mistakes.filter((each) => each.pane === pane).map((each) => ({ ...each, look: 'mistake' }));
     if (said.look === 'refused' && said.spot?.pane === pane) marks.push({ ...said.spot, look: 'refused' });
-    const line = subject?.kind === pane && step.selected !== null ? subject.lines[step.selected] : 0;
+    const line = subject?.pane === pane && step.selected !== null ? subject.lines[step.selected] : 0;
     if (line > 0) marks.push({ line, look: 'current' });
-    editors[pane].decorate(marks, pane === 'table' ? null : placesOf(answers, pane));
+    editors[pane].decorate(marks, placesOf(answers, pane));
   }
 }
 
 /**
- * The place of each record in the bytes, by its line; none while the text has a mistake.
+ * The place of each record in the bytes, by its line; none while the text has a mistake. A pane for a table has none, if it has no records.
  * @param {Answers} answers @param {Pane} pane
- * @returns {Map<number, string>}
+ * @returns {Map<number, string>|null}
  */
 export function placesOf({ reading }, pane) {
   const places = new Map();
-  for (const { line, place } of reading[pane]?.origins ?? []) {
-    const own = reading.place(line).line;
-    if (!places.has(own)) places.set(own, String(place));
+  for (const { line, place } of [reading.stimulus, reading.journal].flatMap((part) => part?.origins ?? [])) {
+    const own = reading.place(line);
+    if (own.pane === pane && !places.has(own.line)) places.set(own.line, String(place));
   }
-  return places;
+  return pane === 'table' && places.size === 0 ? null : places;
 }

@@ -84,7 +84,7 @@ function stanzas(rows) {
  */
 function textOf(pane, text, answers, { spot }) {
   if (text.trim() === '') return null;
-  const places = pane === 'table' ? null : placesOf(answers, pane);
+  const places = placesOf(answers, pane);
   const wrong = new Set([...answers.reading.mistakes, ...(spot ? [spot] : [])].filter((each) => each.pane === pane).map(({ line }) => line));
   const lines = text.trimEnd().split('\n');
   const head = make('h2', {}, PANE_NAMES[pane]);

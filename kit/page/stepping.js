@@ -19,7 +19,7 @@ export function select(page, number, stepping = true) {
   markTexts(page);
   page.say();
   const line = selected === null ? 0 : subject.lines[selected];
-  if (stepping && line > 0 && page.pane === subject.kind) page.editors[subject.kind].reveal(line);
+  if (stepping && line > 0 && page.pane === subject.pane) page.editors[subject.pane].reveal(line);
   drawStep(page);
 }
 
@@ -47,7 +47,7 @@ export function move(page, by) {
  * @param {Page} page @param {Pane} pane @param {number} line
  */
 export function lookAtLine(page, pane, line) {
-  if (page.subject?.kind !== pane) return;
+  if (page.subject?.pane !== pane) return;
   const number = page.subject.lines.indexOf(line);
   const selected = number < 0 ? null : number;
   if (selected !== page.step.selected) select(page, selected, false);

@@ -32,7 +32,7 @@ function use(page, tool) {
 
 /** @param {Page} page @param {{line: number, says: string}} given */
 function lineButton(page, { line, says }) {
-  return make('button', { class: 'plain', type: 'button', onclick: () => page.go({ pane: 'journal', line, column: 1, width: 0 }) }, says);
+  return make('button', { class: 'plain', type: 'button', onclick: () => page.go({ pane: page.subject?.pane ?? 'journal', line, column: 1, width: 0 }) }, says);
 }
 
 /**

@@ -33,10 +33,11 @@ import { traceJournal, traceStimulus } from '../trace.js';
  * What is known of a journal or a stimulus under a table that passes.
  * @typedef {Object} Subject
  * @property {'journal'|'stimulus'} kind
+ * @property {Pane} pane               where its text stands: a text with several parts may stand in one pane
  * @property {Part} part
  * @property {Trace} trace             of a stimulus that runs, that of its journal
  * @property {Explanation|null} explanation  of a refusal
- * @property {number[]} lines          of each step the line in its pane; 0 where it has none
+ * @property {number[]} lines          of each step the line in that pane; 0 where it has none
  */
 
 /**
@@ -121,7 +122,7 @@ function journalSubject(library, reading, table) {
   const trace = part && traceJournal(library, { table, journal: part.bytes, form, names: names ?? undefined });
   if (!part || !trace) return null;
   const lines = linesAt(reading, part, trace.steps.map(({ record }) => record.place));
-  return { kind: 'journal', part, trace, explanation: trace.refused ? explainJournal(trace) : null, lines };
+  return { kind: 'journal', pane: reading.place(part.line).pane, part, trace, explanation: trace.refused ? explainJournal(trace) : null, lines };
 }
 
 /**
@@ -137,7 +138,7 @@ function stimulusSubject(library, reading, table) {
     : traceStimulus(library, { table, stimulus: part.bytes, names: known });
   if (!trace) return null;
   const lines = linesAt(reading, part, decodeRecords(part.bytes, 'stimulus').map(({ place }) => place));
-  return { kind: 'stimulus', part, trace, explanation: trace.refused ? explainJournal(trace) : null, lines };
+  return { kind: 'stimulus', pane: reading.place(part.line).pane, part, trace, explanation: trace.refused ? explainJournal(trace) : null, lines };
 }
 
 /**

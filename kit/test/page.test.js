@@ -54,6 +54,34 @@ test('a mistake is shown at its line, and a click goes there', async (t) => {
   assert.equal(await tab.text(VERDICT), expected('classroom'));
 });
 
+test('a whole text in one pane has its marks there', async (t) => {
+  const tab = await open(t, 'example=classroom');
+  await setPane(tab, 'stimulus', '');
+  await setPane(tab, 'journal', '');
+  const [table, journal] = sample('quarry').split(/(?=^krossvil )/m);
+  await tab.click('#tab-table');
+  await setPane(tab, 'table', table + journal);
+  assert.equal(await tab.text(VERDICT), expected('quarry'));
+  const line = Number(/line (\d+)/.exec(await tab.text('#go'))[1]);
+  assert.match((table + journal).split('\n')[line - 1], /10 +test +free/);
+  await tab.value("document.querySelector('#pane-table textarea').focus()");
+  await tab.click('#go');
+  const marks = (pane) => tab.value(`['refused', 'current'].map((look) => document.querySelector('#pane-${pane} .ordinal.' + look)?.textContent)`);
+  assert.deepEqual(await marks('table'), [String(line), null]);
+  assert.equal(await tab.text('#pane-table .number.refused'), expected('quarry').split(' ').at(-1));
+  const first = 2 + table.split('\n').length - 1;
+  await tab.click('#first');
+  await tab.value("document.querySelector('#pane-table textarea').scrollTop = 1e6");
+  await tab.frames();
+  await tab.click('#next');
+  assert.equal(await tab.text('#pane-table .ordinal.current'), String(first + 1));
+  await tab.click('#tab-journal');
+  assert.deepEqual([await marks('journal'), await tab.text('#pane-says')], [[null, null], 'Empty. Begin with the words: krossvil journal']);
+  await caretBehind(tab, 'table', '10  test');
+  await tab.key('ArrowRight');
+  assert.equal(await tab.text('#pane-table .ordinal.current'), String(line));
+});
+
 test('arrow keys step through the records and light the machine', async (t) => {
   const tab = await open(t, 'example=classroom');
   await tab.value('document.activeElement.blur()');
