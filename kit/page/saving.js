@@ -11,7 +11,10 @@ import { byId, closeMenu, fill, make, save } from './dom.js';
 /** @typedef {import('./workspace.js').Answers} Answers */
 /** @typedef {import('./workspace.js').Subject} Subject */
 /** @typedef {import('./workspace.js').Texts} Texts */
-/** @typedef {{title: string, texts: Texts, answers: Answers, subject: Subject|null, selected: number|null, theme: 'light'|'dark'}} State */
+/**
+ * @typedef {{title: string, texts: Texts, answers: Answers, subject: Subject|null, selected: number|null, theme: 'light'|'dark',
+ *   tell: (says: string) => void}} State
+ */
 /** @typedef {{label: string, can: (state: State) => boolean, save: (state: State) => void}} Saving */
 
 /**
@@ -27,17 +30,20 @@ function slide({ subject, title, selected, theme }) {
 }
 
 /**
- * A picture in dots, twice as fine as on the screen.
- * @param {string} name @param {string} svg
+ * A picture in dots, twice as fine as on the screen. A browser that has no room for it says so in one of three ways.
+ * @param {string} name @param {string} svg @param {State['tell']} tell
  */
-function saveDots(name, svg) {
+function saveDots(name, svg, tell) {
+  const fail = () => tell('The picture could not be made as PNG. Save it as SVG.');
   const image = new Image();
+  image.onerror = fail;
   image.onload = () => {
     const canvas = document.createElement('canvas');
     [canvas.width, canvas.height] = [2 * image.width, 2 * image.height];
-    const context = /** @type {CanvasRenderingContext2D} */ (canvas.getContext('2d'));
+    const context = canvas.getContext('2d');
+    if (!context) return fail();
     context.drawImage(image, 0, 0, canvas.width, canvas.height);
-    canvas.toBlob((blob) => blob && save(name, blob));
+    canvas.toBlob((blob) => (blob ? save(name, blob) : fail()));
   };
   image.src = `data:image/svg+xml,${encodeURIComponent(svg)}`;
 }
@@ -61,7 +67,7 @@ const SAVINGS = [
   { label: 'All texts', can: () => true, save: ({ texts }) => save('krossvil.kv', joinTexts(texts), 'text/plain') },
   bytes('table'), bytes('stimulus'), bytes('journal'),
   { label: 'Timing diagram, SVG', can: hasSubject, save: (state) => save('krossvil-diagram.svg', slide(state), SVG) },
-  { label: 'Timing diagram, PNG', can: hasSubject, save: (state) => saveDots('krossvil-diagram.png', slide(state)) },
+  { label: 'Timing diagram, PNG', can: hasSubject, save: (state) => saveDots('krossvil-diagram.png', slide(state), state.tell) },
   { label: 'Automaton, SVG', can: hasTable,
     save: ({ answers, theme }) => answers.decoded && save('krossvil-automaton.svg', automaton(answers.decoded, { theme }), SVG) },
   { label: 'Matrix of next states, SVG', can: hasTable,
@@ -90,6 +96,7 @@ export function listSavings(page) {
  * @param {import('./page.js').Page} page
  * @returns {State}
  */
-function stateOf({ texts, answers, subject, title, dark, step: { selected } }) {
-  return { texts, answers, subject, title, selected, theme: dark ? 'dark' : 'light' };
+function stateOf(page) {
+  const { texts, answers, subject, title, dark, step: { selected } } = page;
+  return { texts, answers, subject, title, selected, theme: dark ? 'dark' : 'light', tell: (says) => page.notice(says) };
 }

@@ -412,3 +412,21 @@ test('texts, bytes and pictures are saved', async (t) => {
   assert.match(String(await saved('Waves, VCD', 'krossvil.vcd')), /\$enddefinitions/);
   assert.equal((await saved('Timing diagram, PNG', 'krossvil-diagram.png')).subarray(1, 4).toString(), 'PNG');
 });
+
+test('a picture that cannot be saved as PNG is told, and the answer stays', async (t) => {
+  const tab = await open(t, 'example=changed-verdict');
+  const press = async () => {
+    await tab.value("document.getElementById('notice').textContent = ''");
+    await tab.click('#save summary');
+    await tab.value("[...document.querySelectorAll('#save-list button')].find((button) => button.textContent === 'Timing diagram, PNG').click()");
+    await tab.until("document.getElementById('notice').textContent !== ''");
+    assert.match(await tab.text('#notice'), /^The picture could not be made as PNG\. Save it as SVG\.$/);
+    assert.equal(await tab.text(VERDICT), expected('changed-verdict'));
+  };
+  const fails = ['HTMLCanvasElement.prototype.toBlob = (then) => then(null)', 'HTMLCanvasElement.prototype.getContext = () => null',
+    "Object.defineProperty(Image.prototype, 'src', { set() { this.onerror(); } })"];
+  for (const fail of fails) {
+    await tab.value(`void (${fail})`);
+    await press();
+  }
+});
