@@ -88,13 +88,26 @@ export function listOf(inputs, names) {
   return tooLong(inputs, names) ? `${inputs.length} inputs` : namesOf(inputs, names);
 }
 
+/** So many letters of it stand in a circle. */
+const LONGEST_BUT = 13;
+
+/**
+ * What a hold delays: where that is all but a few, those few, if their names are short.
+ * @param {number[]} inputs @param {string[]} names
+ */
+function delayedList(inputs, names) {
+  const others = names.map((_, input) => input).filter((input) => !inputs.includes(input));
+  const allBut = `all but ${namesOf(others, names)}`;
+  return tooLong(inputs, names) && others.length > 0 && allBut.length <= LONGEST_BUT ? allBut : listOf(inputs, names);
+}
+
 /**
  * What stands in a state: its output, its name, and its hold with the inputs that it delays.
  * @param {Table} table @param {Names} names @param {number} state
  * @returns {Words}
  */
 export function wordsOf(table, names, state) {
-  const delays = (/** @type {number} */ set) => `{${listOf(members(set), names.inputs)}}`;
+  const delays = (/** @type {number} */ set) => `{${delayedList(members(set), names.inputs)}}`;
   const hold = table.holds[state] === 0 ? '0' : `${thousands(table.holds[state] ?? 0)}, ${delays(table.delayed[state])}`;
   const timers = table.timers.map((timer, k) => ({ text: `${nameOf(names.timers, k)} ${delays(timer.delays[state])}`, timer: k }))
     .filter(({ timer }) => has(table.timers[timer].region, state) && table.timers[timer].delays[state] !== 0);

@@ -177,3 +177,17 @@ test('hostile names do no harm in DOT, and Graphviz reads it where it is install
     }
   }
 });
+
+test('a hold that delays all inputs but a few names those few, where they are short', () => {
+  const inputs = Array.from({ length: 30 }, (_, k) => `in${k}`);
+  const of = (delayed, names = inputs) => ({
+    ...TABLES[0], counts: { states: 1, inputs: 30, outputs: 1 }, next: [inputs.map(() => 0)], outputs: [0], holds: [7], delayed: [delayed],
+    names: { states: ['only'], inputs: names, outputs: ['out'], timers: [] },
+  });
+  const without = (...few) => few.reduce((set, input) => set - 2 ** input, 2 ** 30 - 1);
+  const said = (table) => [automaton(table), automatonDot(table)].map((picture) => /(?<=\{)(all but|every|\d+|in)[^{}<>]*(?=\})/.exec(picture)?.[0]);
+  for (const [table, words] of [
+    [of(without(3)), 'all but in3'], [of(without(3, 12), inputs.map((_, k) => k.toString(36))), 'all but 3, c'], [of(without(3, 12)), '28 inputs'],
+    [of(without(3), inputs.map((name) => `a_long_name_of_${name}`)), '29 inputs'], [of(without()), 'every input'], [of(8), 'in3'],
+  ]) assert.deepEqual(said(table), [words, words]);
+});
