@@ -23,6 +23,28 @@ library.module.exports = new Proxy(library.module.exports, {
   },
 });
 
+/** The numbers of a module's sections; 0 has one with a name: of functions, of who made it, of a build. */
+function sectionsOf(wasm) {
+  const numbers = [];
+  for (let at = 8; at < wasm.length;) {
+    numbers.push(wasm[at++]);
+    let length = 0;
+    for (let shift = 1, more = true; more; shift *= 128) {
+      length += (wasm[at] & 127) * shift;
+      more = wasm[at++] > 127;
+    }
+    at += length;
+  }
+  return numbers;
+}
+
+test('the module has only what runs: nothing in it names who made it, or where', () => {
+  const wasm = readFileSync(new URL('../../target/kit/krossvil.wasm', import.meta.url));
+  assert.ok([1, 3, 5, 7, 10].every((number) => sectionsOf(wasm).includes(number)));
+  assert.ok(!sectionsOf(wasm).includes(0));
+  assert.equal(sectionsOf(Buffer.concat([wasm, Buffer.from('\0\x05\x04name')])).at(-1), 0);
+});
+
 test('the classroom, through every function', () => {
   assert.deepEqual(library.checkTable(table), { ok: true });
   const numbers = { ok: true, end: 12, cycles: 4, moves: 2, state: 0, output: 0, left: 4, longest: 3 };
