@@ -1,6 +1,7 @@
 #!/usr/bin/env bash
 # The kit: builds the library as WebAssembly, the page and the package, and runs all tests of kit/, which hold WebAssembly against the native
-# library, drive the page in a browser, and try the package. What is missing of Debian's packages is installed.
+# library, drive the page in a browser, try the package, and hold the page against the one that is kept. What is missing of Debian's
+# packages is installed.
 # The last line is 'N passed, M failed'; the exit status is 0 if none failed.
 set -u
 CDPATH='' cd -- "$(dirname -- "${BASH_SOURCE[0]}")/.." || exit 1
@@ -95,4 +96,5 @@ build 'the package' kit/deb/build
 part kit/test/compare
 part kit/test/run
 part kit/deb/try
+part kit/dist/try
 finish

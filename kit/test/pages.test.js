@@ -36,6 +36,10 @@ test('every link and picture of a page leads to a file, and to a heading of it',
   assert.deepEqual(links.filter(({ file, link }) => !leads(file, link)), []);
 });
 
+test('the first link of the front page is the page that needs no toolchain', () => {
+  assert.equal(linksOf(read('README.md'))[0], 'kit/dist/krossvil.html');
+});
+
 test('the front page is short, and shows what the command prints', () => {
   const page = read('README.md');
   assert.ok(page.split('\n').length <= 121);
