@@ -55,9 +55,8 @@ fn run_line(
     if line[0] == b'#' {
         return;
     }
-    let space = words::word_length(line);
-    let word = before(line, space);
-    let rest = words::after(line, space);
+    let word = words::first_word(line);
+    let rest = words::after_word(line);
     let understood = if check::same(word, b"table") {
         set(rest, table, table_size)
     } else if check::same(word, b"records") {

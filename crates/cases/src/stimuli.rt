@@ -8,11 +8,10 @@ use spelling::words::Reading;
 
 // The line's first word is the room for the journal, in bytes.
 pub fn run(line: &[u8], table: &[u8], records: &[u8], and_check: bool) -> bool {
-    let space = words::word_length(line);
-    let Reading::Number(limit) = words::number(words::before(line, space)) else {
+    let Reading::Number(limit) = words::number(words::first_word(line)) else {
         return false;
     };
-    let case = words::after(line, space);
+    let case = words::after_word(line);
     let mut room = [0u8; 65537];
     let Reading::Number(size) = spelling::of_case(case, records, &mut room) else {
         return false;

@@ -101,12 +101,11 @@ pub fn add(line: &[u8], room: &mut Room, size: usize) -> Reading {
     let mut size = size;
     let mut rest = line;
     while rest.len() > 0 {
-        let end = words::word_length(rest);
-        let Reading::Number(more) = add_word(words::before(rest, end), room, size) else {
+        let Reading::Number(more) = add_word(words::first_word(rest), room, size) else {
             return Reading::Unclear;
         };
         size = more;
-        let next = words::after(rest, end);
+        let next = words::after_word(rest);
         rest = next;
     }
     Reading::Number(size)

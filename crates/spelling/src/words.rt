@@ -1,6 +1,7 @@
 // Lines of text, the words of a line, and the numbers among them.
 ghost use Prim.Native.Nat.{_≤_, _-_};
 ghost use lib.ListN.{length};
+use bytes::scan::find;
 
 // A number, unless what was read cannot be understood.
 pub enum Reading {
@@ -40,15 +41,19 @@ fn goes_on(text: &[u8], at: usize) -> bool {
 }
 
 // The length of the first word: it ends at a space or a line end.
-pub fn word_length(line: &[u8]) -> usize {
-    let mut n = 0;
-    while n < line.len() {
-        if line[n] == b' ' || line[n] == b'\n' {
-            return n;
-        }
-        n += 1;
-    }
-    n
+fn word_length(line: &[u8]) -> usize {
+    let space = find(line, 0, line.len(), b' ');
+    find(line, 0, space, b'\n')
+}
+
+pub fn first_word(line: &[u8]) -> &[u8] {
+    before(line, word_length(line))
+}
+
+pub fn after_word(line: &[u8]) -> &[u8]
+    ensures { λ r. ⌜ length (now r) ≤ length (now (line .entry)) - 1 ⌝ }
+{
+    after(line, word_length(line))
 }
 
 // The value of a digit, of ten or of sixteen; 16 for any other byte.

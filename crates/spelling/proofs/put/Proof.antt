@@ -15,24 +15,7 @@ abbrev μ-loop : tie.MeasureT-loop
 
 pub put-spec : {M : Type 1} → statement M
 put-spec =
-    tie.close
-    (tie.spec
-    Inv-loop
-    μ-loop
-    (λ c. search needs)
-    (λ c. search needs)
-    (λ c. search needs)
-    (λ c κs. search needs)
-    (λ c. search needs)
-    (λ c. search needs)
-    (λ c κs. search needs)
-    (λ c. search needs)
-    (λ c. search needs)
-    (λ c. omega (arith, ltb-false))
-    (λ c. search needs)
-    (λ c. omega (arith, leb-false))
-    (λ c. search needs)
-    (λ c. search needs)
-    (λ c. search needs)
-    (λ c. search needs)
-    (λ c. search needs))
+    tie.close (tie.spec Inv-loop μ-loop
+    (search needs) (search needs) (search needs) (search needs) (search needs) (search needs) (search needs) (search needs) (search needs)
+    (λ c. omega (arith, ltb-false)) (λ c. search needs) (λ c. omega (arith, leb-false)) (search needs) (search needs) (search needs)
+    (search needs) (search needs))
