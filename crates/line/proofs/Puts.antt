@@ -7,7 +7,7 @@ use native.Mathlib.Omega.{arith}
 use lib.ListN.{length, take, drop, length-append, length-take, length-drop, drop-of-length-le}
 use lib.Seq.{take-length, take-all, take-at, drop-at, drop-drop}
 use Rattle.io.specs.Counts.{Counts}
-use Rattle.line.specs.Line.{text, decimal, named, lineWith, Puts}
+use Rattle.line.specs.Line.{text, decimal, named, lineWith, lengthNames, lastNames, Puts}
 
 -- The part that is lent to the copy is all that is left of the buffer.
 pub puts-copied : (text before : List ℕ) (at : ℕ) → at + length text ≤ length before → (part : List ℕ) (count : ℕ) → count ≡ length text →
@@ -51,11 +51,7 @@ puts-length {bytes} {before} {at} {after} {end} p room =
     let back = ap length (p .rest) in
     omega (arith, length-take end after, length-take at before, length-drop end after, length-drop end before, p .ends)
 
--- A line begins with its first number, and goes on with the others.
-pub line-more : (name : String) (names : List String) (n : ℕ) (numbers : List ℕ) →
-    lineWith (name ∷ names) (n ∷ numbers) ≡ text name ++ decimal n ++ lineWith names numbers
-unfolding named lineWith
-line-more name names n numbers = simp append-assoc refl
+-- ---- Numbers after their names, one after the other, and the line's end
 
 named-after : (names : List String) (numbers : List ℕ) → length names ≡ length numbers → (more : List String) (rest : List ℕ) →
     named names numbers ++ named more rest ≡ named (names ++ more) (numbers ++ rest)
@@ -66,8 +62,37 @@ named-after (name ∷ names) [] h more rest = absurd (omega arith)
 named-after (name ∷ names) (n ∷ numbers) h more rest =
     simp append-assoc (ap (λ l. text name ++ (decimal n ++ l)) (named-after names numbers (omega arith) more rest))
 
-pub line-after : (names : List String) (numbers : List ℕ) → length names ≡ length numbers → (more : List String) (rest : List ℕ) →
+line-after : (names : List String) (numbers : List ℕ) → length names ≡ length numbers → (more : List String) (rest : List ℕ) →
     named names numbers ++ lineWith more rest ≡ lineWith (names ++ more) (numbers ++ rest)
 unfolding lineWith
 line-after names numbers h more rest =
     sym (append-assoc (named names numbers) _ _) ∙ ap (λ l. l ++ text "\n") (named-after names numbers h more rest)
+
+-- The laws that `search` puts together: no proof says where in the code a text was written.
+module _ {before : List ℕ} {at : ℕ} {after : List ℕ} {end : ℕ} where
+  pub named-last : (name : String) (n : ℕ) → Puts (text name ++ decimal n) before at after end → Puts (named (name ∷ []) (n ∷ [])) before at after end
+  unfolding named
+  named-last name n p = rw append-nil p
+
+  pub line-end : Puts (text "\n") before at after end → Puts (lineWith [] []) before at after end
+  unfolding named lineWith
+  line-end p = p
+
+  module _ {later : List ℕ} {last : ℕ} (names : List String) (numbers : List ℕ) where
+    pub named-more : (name : String) (n : ℕ) → Puts (text name ++ decimal n) before at after end → Puts (named names numbers) after end later last →
+        Puts (named (name ∷ names) (n ∷ numbers)) before at later last
+    unfolding named
+    named-more name n = puts-both
+
+    module _ (ended : Puts (lineWith names numbers) after end later last) where
+      pub line-more : (name : String) (n : ℕ) → Puts (text name ++ decimal n) before at after end →
+          Puts (lineWith (name ∷ names) (n ∷ numbers)) before at later last
+      line-more name n p = rw (← line-after (name ∷ []) (n ∷ []) refl) (puts-both (named-last name n p) ended)
+
+      pub line-length : (a b c : ℕ) → Puts (named lengthNames (a ∷ b ∷ c ∷ [])) before at after end →
+          Puts (lineWith (lengthNames ++ names) (a ∷ b ∷ c ∷ numbers)) before at later last
+      line-length a b c p = rw (← line-after lengthNames (a ∷ b ∷ c ∷ []) refl) (puts-both p ended)
+
+      pub line-last : (a b : ℕ) → Puts (named lastNames (a ∷ b ∷ [])) before at after end →
+          Puts (lineWith (lastNames ++ names) (a ∷ b ∷ numbers)) before at later last
+      line-last a b p = rw (← line-after lastNames (a ∷ b ∷ []) refl) (puts-both p ended)

@@ -20,7 +20,22 @@ fn least(a: usize, b: usize) -> usize
     if a < b { a } else { b }
 }
 
-// A word and three numbers. Each number has at most twenty digits.
+// Numbers after a word: each after a comma, and the line's end. Each number has at most twenty digits.
+fn put_numbers(out: &mut [u8; 65536], at: usize, numbers: &[u64]) -> usize
+    requires { ⌜ at + 21 * length (now numbers) < 65536 ⌝ }
+    ensures puts { λ r. ⌜ Puts (row [] (now (numbers .entry))) (now (out .entry)) at (now (out .exit)) r ⌝ }
+    ensures short { λ r. ⌜ r ≤ at + 21 * length (now (numbers .entry)) + 1 ⌝ }
+{
+    let mut end = at;
+    let mut k = 0;
+    while k < numbers.len() {
+        end = put_number(out, end, b",", numbers[k]);
+        k += 1;
+    }
+    put_text(out, end, b"\n")
+}
+
+// A word and three numbers.
 fn put_three(
     out: &mut [u8; 65536],
     at: usize,
@@ -33,10 +48,7 @@ fn put_three(
     ensures { λ r. ⌜ Puts (row (now (word .entry)) (first ∷ second ∷ third ∷ [])) (now (out .entry)) at (now (out .exit)) r ⌝ }
 {
     let at = put_text(out, at, word);
-    let at = put_number(out, at, b",", first);
-    let at = put_number(out, at, b",", second);
-    let at = put_number(out, at, b",", third);
-    put_text(out, at, b"\n")
+    put_numbers(out, at, &[first, second, third])
 }
 
 // The pair at place k of the rows. State and input have at most two digits each.
@@ -94,8 +106,7 @@ fn put_journals(out: &mut [u8; 65536], journals: u64) -> usize
     ensures short { λ r. ⌜ r ≤ 30 ⌝ }
 {
     let at = put_text(out, 0, b"journals");
-    let at = put_number(out, at, b",", journals);
-    put_text(out, at, b"\n")
+    put_numbers(out, at, &[journals])
 }
 
 // The sheet at the start of the buffer, and its length. Bytes of the buffer past it are unchanged.
@@ -158,7 +169,5 @@ pub fn write_refused(name: &[u8], number: u32, place: usize, out: &mut [u8; 6553
     ensures counts { λ r. ⌜ Counts r (now (out .exit)) ⌝ }
 {
     let at = put_refused(out, name);
-    let at = put_number(out, at, b",", number as u64);
-    let at = put_number(out, at, b",", place as u64);
-    put_text(out, at, b"\n")
+    put_numbers(out, at, &[number as u64, place as u64])
 }

@@ -8,8 +8,4 @@ returns : tie.Need-returns
 returns c = pair-short _ _ _ (search needs) (search needs) (c .put-three .ensures)
 
 pub put-pair-spec : {M : Type 1} → statement M
-put-pair-spec =
-    tie.close
-    (tie.spec
-    (λ c. search needs) (λ c. search needs) (λ c. search needs) (λ c κs. search needs)
-    returns)
+put-pair-spec = tie.close (tie.spec (search needs) (search needs) (search needs) (search needs) returns)
