@@ -7,7 +7,7 @@ use Rattle.sets.specs.Sets.{some, setOf, largest}
 use Rattle.table.specs.Answer.{_or-else_, _and-then_}
 use Rattle.table.specs.Entries.{entriesFrom, values}
 use Rattle.table.specs.Encode.{words, timing, tableBytes}
-use Rattle.table.specs.Check.{expectedField, fieldAnswer, rowAnswer, below, badWord, setAnswer, countsAnswer, boundAnswer, holdsAnswer, tagged, timingAnswer, entriesAnswer}
+use Rattle.table.specs.Check.{expectedField, fieldAnswer, rowAnswer, below, setAnswer, countsAnswer, boundAnswer, holdsAnswer, tagged, timingAnswer, entriesAnswer}
 use Rattle.table.specs.Check.{answerBy, timersIn, tableWith}
 use Rattle.table.specs.Under.{underTable}
 use Rattle.records.specs.Reading.{lengthFits, knownIn, knownWith, openingIn, openingWith, recordOf, ranged, recordIn, recordAt, itemsFrom, itemsOf}
@@ -23,7 +23,7 @@ use Rattle.runtime.specs.Run.{madeOfRun, runOf}
 use Rattle.demands.specs.Cases.{CasesHold, Sizes}
 
 pub cases-hold : CasesHold
-unfolding field fieldAt some setOf largest _or-else_ _and-then_ entriesFrom values tableBytes words expectedField fieldAnswer rowAnswer below badWord setAnswer tagged timing
+unfolding field fieldAt some setOf largest _or-else_ _and-then_ entriesFrom values tableBytes words expectedField fieldAnswer rowAnswer below setAnswer tagged timing
     countsAnswer boundAnswer holdsAnswer timingAnswer entriesAnswer answerBy timersIn tableWith underTable lengthFits knownIn knownWith openingIn openingWith recordOf
     ranged recordIn recordAt itemsFrom itemsOf bytesOf bytesFrom encode ruleBy strongest largestOver rule verdict left regionsAfter stateAfter lastChange gate step ticksOf movesFrom most filled walk
     recordsRun runOpened runOver answerOfRun checkIn nextSet weightOf reactionTime firstFrom firstLeaving reactionOf forHolds reactOf madeOfRun runOf answerIn

@@ -17,7 +17,7 @@ use Rattle.table.specs.Table.{WellFormed}
 use Rattle.table.specs.Answer.{_or-else_, _and-then_}
 use Rattle.table.specs.Entries.{entriesFrom, values}
 use Rattle.table.specs.Encode.{words, timing, tableBytes}
-use Rattle.table.specs.Check.{expectedField, fieldAnswer, rowAnswer, below, badWord, setAnswer, countsAnswer, boundAnswer, holdsAnswer, tagged, timingAnswer, entriesAnswer}
+use Rattle.table.specs.Check.{expectedField, fieldAnswer, rowAnswer, below, setAnswer, countsAnswer, boundAnswer, holdsAnswer, tagged, timingAnswer, entriesAnswer}
 use Rattle.table.specs.Check.{answerBy, timersIn, tableWith}
 use Rattle.table.specs.Under.{underTable}
 use Rattle.table.proofs.WellFormed.{well-formed}
@@ -127,7 +127,7 @@ least-of table P A time target tight journal input records answer shown = record
 }
 
 classroom-well-formed : WellFormed classroomTable
-unfolding field fieldAt _or-else_ _and-then_ entriesFrom values tableBytes words timing expectedField fieldAnswer rowAnswer below badWord setAnswer tagged
+unfolding field fieldAt _or-else_ _and-then_ entriesFrom values tableBytes words timing expectedField fieldAnswer rowAnswer below setAnswer tagged
     countsAnswer boundAnswer holdsAnswer timingAnswer entriesAnswer answerBy timersIn tableWith
 classroom-well-formed = well-formed classroom refl
 
@@ -147,7 +147,7 @@ shows journal P A target c s input records last bytes through later none out = r
 }
 
 pub least-times : LeastTimes
-unfolding field fieldAt some setOf largest _or-else_ _and-then_ entriesFrom values tableBytes words expectedField fieldAnswer rowAnswer below badWord setAnswer tagged timing
+unfolding field fieldAt some setOf largest _or-else_ _and-then_ entriesFrom values tableBytes words expectedField fieldAnswer rowAnswer below setAnswer tagged timing
     countsAnswer boundAnswer holdsAnswer timingAnswer entriesAnswer answerBy timersIn tableWith underTable lengthFits knownIn knownWith openingIn openingWith recordOf
     ranged recordIn recordAt itemsFrom itemsOf ruleBy strongest largestOver rule verdict left regionsAfter stateAfter lastChange gate step walk
     recordsRun runOpened runOver nextSet weightOf reactionTime firstFrom firstLeaving reactionOf forHolds reactOf needOf tightTime reactTightOf slot all-bytes

@@ -16,7 +16,7 @@ use Rattle.table.specs.declared.Answer.the-variants as verdict
 use Rattle.table.specs.declared.Counts.{Counts}
 use Rattle.table.specs.Answer.{replyOf, _or-else_, _and-then_}
 use Rattle.table.specs.Entries.{entriesFrom}
-use Rattle.table.specs.Check.{expectedField, fieldAnswer, rowAnswer, below, badWord, setAnswer, timerAnswer, countsAnswer, boundAnswer, countsIn, holdField}
+use Rattle.table.specs.Check.{expectedField, fieldAnswer, rowAnswer, below, setAnswer, timerAnswer, countsAnswer, boundAnswer, countsIn, holdField}
 use Rattle.table.specs.Check.{holdsAnswer, timerSetsAnswer, timersAnswer, timed, claimedTimers, timingAnswer, entriesAnswer, answerBy}
 use Rattle.table.proofs.Answers.{decided}
 use Rattle.table.proofs.Rows.{number-known}
@@ -75,14 +75,6 @@ unfolding setAnswer
 by-set old hold set limit place low =
     by-then _ _ (by-test _ _ (record { number = omega arith; place = low })) (λ p. by-test _ _ (record { number = omega arith; place = low }))
 
-by-word : (tag place : ℕ) → place ≤ 2000 → By (badWord tag place)
-unfolding badWord
-by-word tag place low = go (tag =? 0x05)
-  where
-    go : (b : Bool) → By (if b then verdict.HoldTooLong place else verdict.UnknownMember place)
-    go true = record { number = omega arith; place = low }
-    go false = record { number = omega arith; place = low }
-
 by-timer : (length region limit place : ℕ) → place ≤ 1900 → By (timerAnswer length region limit place)
 unfolding timerAnswer
 by-timer length region limit place low =
@@ -96,7 +88,7 @@ module _ (c : Counts) (s : List ℕ) (few : c .states ≤ 32) (narrow : c .input
   by-holds : (old : Bool) → By (holdsAnswer old c s)
   unfolding holdsAnswer
   by-holds old =
-      by-then _ _ (by-row s _ _ (omega (arith, many)) _ _ _ (λ k h. by-below _ _ _ k (by-word _ _ (omega (arith, many))))) (λ r.
+      by-then _ _ (by-row s _ _ (omega (arith, many)) _ _ _ (λ k h. by-below _ _ _ k (record { number = omega arith; place = omega (arith, many) }))) (λ r.
       by-then _ _ (by-row s _ _ (omega (arith, many)) _ _ _ (λ k h. by-set _ _ _ _ _ (omega (arith, many)))) (λ u.
       by-test _ _ (record { number = omega arith; place = omega (arith, many) })))
 
@@ -107,7 +99,7 @@ module _ (c : Counts) (s : List ℕ) (few : c .states ≤ 32) (narrow : c .input
       let four = number-known n (holdField c) p .1 in
       let rows : c .states * n ≤ 128 = mul-le-mul few four in
       by-then _ _ (by-row s _ _ (omega (arith, many)) _ _ _ (λ k h. by-timer _ _ _ _ (omega (arith, many)))) (λ r.
-      by-then _ _ (by-row s _ _ (omega (arith, many)) _ _ _ (λ k h. by-below _ _ _ k (by-word _ _ (omega (arith, many))))) (λ u.
+      by-then _ _ (by-row s _ _ (omega (arith, many)) _ _ _ (λ k h. by-below _ _ _ k (record { number = omega arith; place = omega (arith, many) }))) (λ u.
       by-test _ _ (record { number = omega arith; place = omega (arith, many) }))))
 
   by-timing : (old : Bool) → By (timingAnswer old c s)

@@ -16,7 +16,7 @@ use Rattle.table.specs.declared.Table.{Table}
 use Rattle.table.specs.Entries.{values}
 use Rattle.table.specs.Table.{largestBound, WellFormedBy}
 use Rattle.table.specs.Encode.{tableBytes, timing}
-use Rattle.table.specs.Check.{bytesAnswer, countsIn, boundIn, isBetween, countsInRange, nextField}
+use Rattle.table.specs.Check.{bytesAnswer, outputRow, nextRow, countsIn, boundIn, isBetween, countsInRange, nextField}
 use Rattle.table.specs.Check.{countsAnswer, boundAnswer, entriesAnswer, answerBy, tableWith, tableOf, tableIn}
 use Rattle.table.proofs.Answers.{holds, goes-on}
 use Rattle.table.proofs.Rows.{row-stands, between}
@@ -95,8 +95,8 @@ encoding-passes old t ok =
     let bounded : isBetween 1 largestBound (boundIn s) ≡ true = rw bound (between 1 largestBound (t .bound) (ok .bound)) in
     let p₁ : Passes ≡ countsAnswer s = goes-on (field-passes s 0 0x01 4 (f₁ .whole)) (sym (holds (CountOutOfRange 0) counts)) in
     let p₂ : Passes ≡ boundAnswer s = goes-on (field-passes s 7 0x02 4 (f₂ .whole)) (sym (holds (BoundOutOfRange 7) bounded)) in
-    let p₃ : bytesAnswer s 14 0x03 q (t .outputs) ≡ Passes = row-passes f₃ _ _ (ok .output) in
-    let p₄ : bytesAnswer s (nextField c) 0x04 (q * t .inputs) q ≡ Passes = row-passes f₄ _ _ (next-below old t ok) in
+    let p₃ : bytesAnswer s (outputRow c) ≡ Passes = row-passes f₃ _ _ (ok .output) in
+    let p₄ : bytesAnswer s (nextRow c) ≡ Passes = row-passes f₄ _ _ (next-below old t ok) in
     let entries : Passes ≡ entriesAnswer old c s = goes-on p₃ (goes-on p₄ (sym (rest .passes))) in
     let k₃ = row-kept f₃ 32 few (ok .output-uses) in
     let k₄ = row-kept f₄ 1024 many (ok .next-uses) in

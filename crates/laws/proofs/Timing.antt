@@ -19,7 +19,7 @@ use Rattle.table.specs.declared.Table.{Table}
 use Rattle.table.specs.Entries.{filledTo, zeros}
 use Rattle.table.specs.Table.{longestHold, mostTimers, holdOf, delayedOf, regionOf, timerSetOf, Uses, WellFormedBy}
 use Rattle.table.specs.Encode.{words, timing}
-use Rattle.table.specs.Check.{wordEntry, wordsAnswer, setsAnswer, timersRow, holdField, delayedField, tableEnd, timerSets}
+use Rattle.table.specs.Check.{wordEntry, wordsAnswer, holdRow, setsAnswer, timersRow, holdField, delayedField, tableEnd, timerSetField, timerSetRow}
 use Rattle.table.specs.Check.{holdsAnswer, timerSetsAnswer, timersAnswer, timed, claimedTimers, timingAnswer, timersIn, tableWith, tableOf}
 use Rattle.table.proofs.Answers.{holds, goes-on}
 use Rattle.table.proofs.Rows.{row-stands, set-passes, timer-passes, between, whole-tagged}
@@ -47,8 +47,8 @@ module _ (s : List ℕ) (bytes : Bytes s) (c : Counts) where
       let eight : 8 * n ≡ 4 * (2 * n) = omega arith in
       let whole : WholeAt s (holdField c) 0x07 (4 * (2 * n)) = rw eight at (row-stands _ _ _ _ _ _ (stands .timers)) in
       let f₇ = word-row-read s bytes (holdField c) 0x07 (2 * n) 8 whole in
-      let f₈ = word-row-read s bytes (timerSets c n) 0x08 (c .states * n) 128 (row-stands _ _ _ _ _ _ (stands .sets)) in
-      let next : holdField c + 3 + 4 * (2 * n) ≡ timerSets c n = omega arith in
+      let f₈ = word-row-read s bytes (timerSetField c n) 0x08 (c .states * n) 128 (row-stands _ _ _ _ _ _ (stands .sets)) in
+      let next : holdField c + 3 + 4 * (2 * n) ≡ timerSetField c n = omega arith in
       rw (ne-eqb n 0 (λ e. omega arith)) (f₇ ∙ rw (next, f₈, no-more _ (stands .ends), append-nil) refl)
 
   pub timing-read : (old : Bool) → timingAnswer old c s ≡ Passes → drop (holdField c) s ≡ timing (tableOf c s)
@@ -70,7 +70,7 @@ pub record TimingWritten (old : Bool) (t : Table) (s : List ℕ) (c : Counts) : 
   pub hold : filledTo (wordEntry s (holdField c)) (if t .timers =? 0 then c .states else 0) (zeros 32) ≡ t .hold
   pub delayed : filledTo (wordEntry s (delayedField c)) (if t .timers =? 0 then c .states else 0) (zeros 32) ≡ t .delayed
   pub timing : filledTo (wordEntry s (holdField c)) (2 * t .timers) (zeros 8) ≡ t .timing
-  pub sets : filledTo (wordEntry s (timerSets c (t .timers))) (c .states * t .timers) (zeros 128) ≡ t .sets
+  pub sets : filledTo (wordEntry s (timerSetField c (t .timers))) (c .states * t .timers) (zeros 128) ≡ t .sets
 
 and-false : (a b : Bool) → b ≡ false → (a && b) ≡ false
 and-false true b e = e
@@ -104,7 +104,7 @@ module _ (old : Bool) (t : Table) (ok : WellFormedBy old t) (s : List ℕ) where
       let f₅ = words-written s _ (t .hold) (holdField c) 0x05 q (rw (holding .places) few) (omega (arith, few)) there in
       let f₆ = words-written s _ (t .delayed) (delayedField c) 0x06 q (rw (delaying .places) few) (omega (arith, few)) (f₅ .ends) in
       let short : (k : ℕ) → k < q → holdOf t k < longestHold + 1 = λ k h. let low = ok .hold k h in omega arith in
-      let p₅ : wordsAnswer s (holdField c) 0x05 q (longestHold + 1) ≡ Passes = row-passes f₅ _ _ short in
+      let p₅ : wordsAnswer s (holdRow c) ≡ Passes = row-passes f₅ _ _ short in
       let known : (k : ℕ) → k < q → delayedOf t k < 2 ^ t .inputs = λ k h. below-limit _ (t .inputs) (λ i. ok .delayed k i h) in
       let idle : (k : ℕ) → k < q → old ≡ false → number32At s (holdField c + 3 + 4 * k) ≡ 0 → number32At s (delayedField c + 3 + 4 * k) ≡ 0 =
       λ k h new empty. f₆ .entries k h ∙ ok .not-idle new k h (sym (f₅ .entries k h) ∙ empty)
@@ -145,8 +145,8 @@ module _ (old : Bool) (t : Table) (ok : WellFormedBy old t) (s : List ℕ) where
       let f₇ = words-written s _ (t .timing) (holdField c) 0x07 (2 * n) (rw (ok .timing-uses .places) (omega arith)) (omega arith) there in
       let size : 4 * (2 * n) ≡ 8 * n = omega arith in
       let whole : WholeAt s (holdField c) 0x07 (8 * n) = rw size at (f₇ .whole) in
-      let next : holdField c + 3 + 4 * (2 * n) ≡ timerSets c n = omega arith in
-      let f₈ = words-written s _ (t .sets) (timerSets c n) 0x08 (t .states * n) (rw (ok .sets-uses .places) rows) (omega arith) (rw next at (f₇ .ends)) in
+      let next : holdField c + 3 + 4 * (2 * n) ≡ timerSetField c n = omega arith in
+      let f₈ = words-written s _ (t .sets) (timerSetField c n) 0x08 (t .states * n) (rw (ok .sets-uses .places) rows) (omega arith) (rw next at (f₇ .ends)) in
       let claimed : claimedTimers c s ≡ n = rw (whole .size-is) (omega arith) in
       let kind : timed c s ≡ true = whole-tagged s (holdField c) 0x07 (8 * n) whole in
       let new : old ≡ false = not-old old (λ is. more (ok .no-timers is)) in
@@ -157,8 +157,8 @@ module _ (old : Bool) (t : Table) (ok : WellFormedBy old t) (s : List ℕ) where
       (rw (f₇ .entries (2 * k) (omega arith)) (ok .length k h))
       (rw (f₇ .entries (2 * k + 1) (omega arith)) (below-limit (regionOf t k) (t .states) (λ q. ok .region k q h))))
       in
-      let p₈ : wordsAnswer s (timerSets c n) 0x08 (t .states * n) (2 ^ t .inputs) ≡ Passes = row-passes f₈ _ _ (set-below some) in
-      let last = timerSets c n + 3 + 4 * (t .states * n) in
+      let p₈ : wordsAnswer s (timerSetRow c (timerSetField c n) n) ≡ Passes = row-passes f₈ _ _ (set-below some) in
+      let last = timerSetField c n + 3 + 4 * (t .states * n) in
       let end : length s - last ≡ 0 = sym (length-drop last s) ∙ ap length (f₈ .ends) in
       let p₉ = holds (BytesAfter last) (le-leb (length s) last (omega arith)) in
       let none-held : (if n =? 0 then t .states else 0) ≡ 0 = rw (ne-eqb n 0 more) refl in

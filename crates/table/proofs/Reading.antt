@@ -6,12 +6,13 @@ use Rattle.wire.specs.Choice.{_=?_, if_then_else_}
 use Rattle.table.specs.declared.Counts.{Counts}
 use Rattle.table.specs.declared.Places.{Places}
 use Rattle.table.specs.Entries.{filledTo, zeros}
-use Rattle.table.specs.Check.{byteEntry, wordEntry, countsIn, boundIn, PlacesOf, timerSets, timersIn, tableWith, tableIn}
+use Rattle.table.specs.Check.{byteEntry, wordEntry, countsIn, outputField, boundIn, timerSetField, timersIn, tableWith, tableIn}
+use Rattle.table.specs.Inner.{PlacesOf}
 
 pub table-made : (s : List ℕ) (c : Counts) (p : Places) → c ≡ countsIn s → PlacesOf c p →
     (bound timers holders sets-at : ℕ) (output next hold delayed timing sets : List ℕ) → bound ≡ boundIn s →
-    timers ≡ timersIn c s → holders ≡ (if timers =? 0 then c .states else 0) → sets-at ≡ timerSets c timers →
-    output ≡ filledTo (byteEntry s 14) (c .states) (zeros 32) →
+    timers ≡ timersIn c s → holders ≡ (if timers =? 0 then c .states else 0) → sets-at ≡ timerSetField c timers →
+    output ≡ filledTo (byteEntry s outputField) (c .states) (zeros 32) →
     next ≡ filledTo (byteEntry s (p .next)) (p .pairs) (zeros 1024) →
     hold ≡ filledTo (wordEntry s (p .hold)) holders (zeros 32) →
     delayed ≡ filledTo (wordEntry s (p .delayed)) holders (zeros 32) →

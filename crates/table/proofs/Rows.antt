@@ -21,8 +21,9 @@ use Rattle.table.specs.declared.Answer.the-variants.{Passes, RunsOut, Wr
 use Rattle.table.specs.declared.Answer.the-variants.{UnknownMember, TimerOutOfRange, BytesAfter}
 use Rattle.table.specs.Answer.{passes?, _or-else_, _and-then_}
 use Rattle.table.specs.Entries.{entriesFrom}
-use Rattle.table.specs.Check.{expectedField, isBetween, fieldAnswer, rowAnswer, below, badWord, setAnswer, timerAnswer, timerEntry, holdField, holdsAnswer, timersAnswer, tagged, timingAnswer}
-use Rattle.table.specs.Check.{bytesAnswer, wordsAnswer, setsAnswer, PlacesOf, entriesAnswer}
+use Rattle.table.specs.Check.{expectedField, isBetween, fieldAnswer, rowAnswer, below, setAnswer, timerAnswer, timerEntry, holdField, holdsAnswer, timersAnswer, tagged, timingAnswer}
+use Rattle.table.specs.Check.{bytesAnswer, wordsAnswer, setsAnswer, outputRow, entriesAnswer}
+use Rattle.table.specs.Inner.{PlacesOf, byteRow, badWord, wordRow}
 use Rattle.table.specs.declared.Counts.{Counts}
 use Rattle.table.specs.declared.Places.{Places}
 use Rattle.table.specs.Table.{longestHold, mostTimers}
@@ -241,17 +242,17 @@ module _ (old : Bool) (c : Counts) (s : List ℕ) (at : ℕ) (there : at ≡ hol
 
 -- Two fields at the places that the code has found, the first of which passed: 05 and 06, and 03 and 04.
 module _ (old : Bool) (c : Counts) (p : Places) (s : List ℕ) (places : PlacesOf c p) (a b : Answer) (passed : Passed a) where
-  module _ (limit : ℕ) (is : limit ≡ 2 ^ c .inputs) (holds : a ≡ wordsAnswer s (p .hold) 0x05 (c .states) (longestHold + 1))
+  module _ (limit : ℕ) (is : limit ≡ 2 ^ c .inputs) (holds : a ≡ wordsAnswer s (wordRow (p .hold) 0x05 (c .states) (longestHold + 1)))
       (sets : b ≡ setsAnswer old s (p .hold) (p .delayed) (c .states) limit) where
     pub no-sets : Refused b → b ≡ holdsAnswer old c s
-    unfolding holdsAnswer
+    unfolding holdsAnswer badWord
     no-sets h = past (rw (places .hold) at holds) passed (stops _ (rw (places .hold, places .delayed, is) at sets) h)
 
     pub table-ends : Passed b → (r : Answer) → r ≡ (length s ≤? p .end or-else BytesAfter (p .end)) → r ≡ holdsAnswer old c s
-    unfolding holdsAnswer
+    unfolding holdsAnswer badWord
     table-ends h r e = past (rw (places .hold) at holds) passed (past (rw (places .hold, places .delayed, is) at sets) h (rw (places .end) at e))
 
-  module _ (outputs : a ≡ bytesAnswer s 14 0x03 (c .states) (c .outputs)) (next : b ≡ bytesAnswer s (p .next) 0x04 (p .pairs) (c .states)) where
+  module _ (outputs : a ≡ bytesAnswer s (outputRow c)) (next : b ≡ bytesAnswer s (byteRow (p .next) 0x04 (p .pairs) (c .states))) where
     pub no-next : Refused b → b ≡ entriesAnswer old c s
     unfolding entriesAnswer
     no-next h = past outputs passed (stops _ (rw (places .next, places .pairs) at next) h)

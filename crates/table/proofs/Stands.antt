@@ -15,7 +15,7 @@ use Rattle.table.specs.declared.Answer.the-variants.{Passes, WrongTagOrL
 use Rattle.table.specs.declared.Counts.{Counts}
 use Rattle.table.specs.Table.{largestBound, longestHold, mostTimers}
 use Rattle.table.specs.Check.{bytesAnswer, wordsAnswer, setsAnswer, countsIn, boundIn, countsInRange, countsAnswer, boundAnswer}
-use Rattle.table.specs.Check.{nextField, holdField, delayedField, tableEnd, timerSets, timersRow, holdsAnswer, timerSetsAnswer, timersAnswer}
+use Rattle.table.specs.Check.{holdField, delayedField, tableEnd, outputRow, nextRow, holdRow, timerSetField, timerSetRow, timersRow, holdsAnswer, timerSetsAnswer, timersAnswer}
 use Rattle.table.specs.Check.{tagged, timed, claimedTimers, timingAnswer, entriesAnswer, answerBy, tableAnswer, timersIn}
 use Rattle.table.proofs.Answers.{told, first-passes, rest-passes}
 use Rattle.table.proofs.Rows.{field-stands, row-stands, in-range, whole-tagged}
@@ -55,13 +55,13 @@ pub record HeadStands (s : List ℕ) (c : Counts) : Type 0 where
   pub counts : CountsFit c
   pub bound-field : WholeAt s 7 0x02 4
   pub bound : (1 ≤ boundIn s) × (boundIn s ≤ largestBound)
-  pub outputs : bytesAnswer s 14 0x03 (c .states) (c .outputs) ≡ Passes
-  pub next : bytesAnswer s (nextField c) 0x04 (c .states * c .inputs) (c .states) ≡ Passes
+  pub outputs : bytesAnswer s (outputRow c) ≡ Passes
+  pub next : bytesAnswer s (nextRow c) ≡ Passes
 
 -- Fields 05 and 06, and nothing after them.
 pub record HoldsStand (old : Bool) (s : List ℕ) (c : Counts) : Type 0 where
   pub none : timersIn c s ≡ 0
-  pub holds : wordsAnswer s (holdField c) 0x05 (c .states) (longestHold + 1) ≡ Passes
+  pub holds : wordsAnswer s (holdRow c) ≡ Passes
   pub delayed : setsAnswer old s (holdField c) (delayedField c) (c .states) (2 ^ c .inputs) ≡ Passes
   pub ends : length s ≡ tableEnd c
 
@@ -70,8 +70,8 @@ pub record TimersStand (s : List ℕ) (c : Counts) (n : ℕ) : Type 0 where
   pub some : timersIn c s ≡ n
   pub few : (1 ≤ n) × (n ≤ mostTimers)
   pub timers : timersRow s (holdField c) n (2 ^ c .states) ≡ Passes
-  pub sets : wordsAnswer s (timerSets c n) 0x08 (c .states * n) (2 ^ c .inputs) ≡ Passes
-  pub ends : length s ≡ timerSets c n + 3 + 4 * (c .states * n)
+  pub sets : wordsAnswer s (timerSetRow c (timerSetField c n) n) ≡ Passes
+  pub ends : length s ≡ timerSetField c n + 3 + 4 * (c .states * n)
 
 module _ (s : List ℕ) (c : Counts) where
   pub holds-stand : (old : Bool) → holdsAnswer old c s ≡ Passes → HoldsStand old s c
@@ -89,7 +89,7 @@ module _ (s : List ℕ) (c : Counts) where
   timers-stand n is e =
       let e₂ = rest-passes _ _ e in
       let e₃ = rest-passes _ _ e₂ in
-      let end = timerSets c n + 3 + 4 * (c .states * n) in
+      let end = timerSetField c n + 3 + 4 * (c .states * n) in
       let sets = first-passes _ _ e₃ in
       let long : length s ≤ end = leb-true (length s) end (told _ (BytesAfter end) refl (rest-passes _ _ e₃)) in
       record {
@@ -150,7 +150,7 @@ pub record Readable (s : List ℕ) (c : Counts) (n holders : ℕ) : Type 0 where
   pub hold : 0 < holders → holdField c + 3 + 4 * holders ≤ length s
   pub delayed : 0 < holders → delayedField c + 3 + 4 * holders ≤ length s
   pub timing : 0 < 2 * n → holdField c + 3 + 4 * (2 * n) ≤ length s
-  pub sets : 0 < c .states * n → timerSets c n + 3 + 4 * (c .states * n) ≤ length s
+  pub sets : 0 < c .states * n → timerSetField c n + 3 + 4 * (c .states * n) ≤ length s
 
 module _ (s : List ℕ) (c : Counts) (fit : CountsFit c) where
   read-holds : HoldsStand false s c → Readable s c 0 (c .states)

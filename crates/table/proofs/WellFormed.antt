@@ -14,30 +14,33 @@ use Rattle.table.specs.declared.Answer.the-variants.{Passes}
 use Rattle.table.specs.Answer.{passes?}
 use Rattle.table.specs.Entries.{filledTo, zeros}
 use Rattle.table.specs.Table.{longestHold, mostTimers, member, holdOf, delayedOf, delays, lengthOf, inRegion, timerDelays, WellFormedBy, WellFormed}
-use Rattle.table.specs.Check.{below, rowAnswer, byteEntry, bytesAnswer, wordEntry, wordsAnswer, setEntry, setsAnswer}
-use Rattle.table.specs.Check.{countsIn, nextField, holdField, delayedField, timerSets, timersRow, timingAnswer, answerBy, tableAnswer}
+use Rattle.table.specs.Check.{below, rowAnswer, byteEntry, bytesAnswer, wordEntry, wordsAnswer, setEntry, setsAnswer, Row}
+use Rattle.table.specs.Check.{countsIn, outputField, outputRow, nextField, nextRow, holdField, holdRow, delayedField, timerSetField, timerSetRow, timersRow, timingAnswer, answerBy, tableAnswer}
 use Rattle.table.specs.Check.{timersIn, tableWith, tableOf, tableIn}
 use Rattle.table.specs.declared.Counts.{Counts}
 use Rattle.table.specs.declared.Table.{Table}
 use Rattle.wire.specs.Choice.{_=?_, if_then_else_}
 use Rattle.wire.proofs.Choice.{never}
 use borrow.Author.Tests.{ne-eqb}
-use Rattle.table.proofs.Rows.{row-each, limited, set-known, set-not-idle, bad-word-refuses, timer-known}
+use Rattle.table.proofs.Rows.{row-each, limited, set-known, set-not-idle, timer-known}
 use Rattle.table.proofs.Values.{getD-filled, filled-uses}
 use Rattle.table.proofs.Stands.{CountsFit, HeadStands, HoldsStand, TimersStand, timing-stands, table-stands}
 
 -- Entries that a limit let pass are below it in the array too.
-module _ (s : List ℕ) (at tag n limit places : ℕ) (fits : n ≤ places) where
-  held-below : (size : ℕ) (entry : ℕ → ℕ) (called : ℕ → Answer) → ((k : ℕ) → passes? (called k) ≡ false) →
-      rowAnswer s at tag size (below limit entry called) n ≡ Passes → (k : ℕ) → k < n → getD (filledTo entry n (zeros places)) k 0 < limit
-  held-below size entry called bad e k h =
-      rw (getD-filled entry n places fits k h) (limited limit entry called k (bad k) (row-each s at tag size _ n e k h))
+module _ (s : List ℕ) (row : Row) (refuses : (place : ℕ) → passes? (row .otherwise place) ≡ false) (places : ℕ) (fits : row .entries ≤ places) where
+  abbrev Held : (ℕ → ℕ) → Type 0
+  Held entry = (k : ℕ) → k < row .entries → getD (filledTo entry (row .entries) (zeros places)) k 0 < row .limit
 
-  bytes-below : bytesAnswer s at tag n limit ≡ Passes → (k : ℕ) → k < n → getD (filledTo (byteEntry s at) n (zeros places)) k 0 < limit
-  bytes-below = held-below n (byteEntry s at) _ (λ k. refl)
+  held-below : (size : ℕ) (entry place : ℕ → ℕ) →
+      rowAnswer s (row .at) (row .tag) size (below (row .limit) entry (λ k. row .otherwise (place k))) (row .entries) ≡ Passes → Held entry
+  held-below size entry place e k h =
+      rw (getD-filled entry (row .entries) places fits k h) (limited (row .limit) entry _ k (refuses (place k)) (row-each s (row .at) (row .tag) size _ (row .entries) e k h))
 
-  words-below : wordsAnswer s at tag n limit ≡ Passes → (k : ℕ) → k < n → getD (filledTo (wordEntry s at) n (zeros places)) k 0 < limit
-  words-below = held-below (4 * n) (wordEntry s at) _ (λ k. bad-word-refuses tag (at + 3 + 4 * k))
+  bytes-below : bytesAnswer s row ≡ Passes → Held (byteEntry s (row .at))
+  bytes-below = held-below (row .entries) (byteEntry s (row .at)) (λ k. row .at + 3 + k)
+
+  words-below : wordsAnswer s row ≡ Passes → Held (wordEntry s (row .at))
+  words-below = held-below (4 * row .entries) (wordEntry s (row .at)) (λ k. row .at + 3 + 4 * k)
 
 -- Delayed sets that passed, as the arrays have them.
 module _ (old : Bool) (s : List ℕ) (holds at n limit places : ℕ) (fits : n ≤ places) (e : setsAnswer old s holds at n limit ≡ Passes) where
@@ -87,7 +90,7 @@ module _ (old : Bool) (s : List ℕ) (c : Counts) (fit : CountsFit c) where
   with-holds stands =
       let few = fit .states .1 in
       record {
-        hold = λ q h. let b = words-below s (holdField c) 0x05 (c .states) (longestHold + 1) 32 few (stands .holds) q h in omega arith;
+        hold = λ q h. let b = words-below s (holdRow c) (λ place. refl) 32 few (stands .holds) q h in omega arith;
         delayed = λ q i h m.
             member-below _ (c .inputs) i (set-below old s (holdField c) (delayedField c) (c .states) (2 ^ c .inputs) 32 few (stands .delayed) q h) m;
         not-idle = never-idle old s (holdField c) (delayedField c) (c .states) (2 ^ c .inputs) 32 few (stands .delayed);
@@ -122,7 +125,7 @@ module _ (old : Bool) (s : List ℕ) (c : Counts) (fit : CountsFit c) where
           region = λ k q h m. member-below _ (c .states) q (each k h .2) m;
           sets = λ k q i hk hq m.
               member-below _ (c .inputs) i
-              (words-below s (timerSets c n) 0x08 (c .states * n) (2 ^ c .inputs) 128 many (stands .sets) (q * n + k) (digits-lt hq hk)) m;
+              (words-below s (timerSetRow c (timerSetField c n) n) (λ place. refl) 128 many (stands .sets) (q * n + k) (digits-lt hq hk)) m;
         }
 
   timed-in : timingAnswer old c s ≡ Passes → Timed old (tableOf c s)
@@ -154,9 +157,9 @@ made-well old s c n head timed =
       outputs = fit .outputs;
       initial = fit .initial;
       bound = head .bound;
-      output = bytes-below s 14 0x03 (c .states) (c .outputs) 32 few (head .outputs);
+      output = bytes-below s (outputRow c) (λ place. refl) 32 few (head .outputs);
       next = λ q i hq hi.
-          bytes-below s (nextField c) 0x04 pairs (c .states) 1024 many (head .next) (q * c .inputs + i) (digits-lt hq hi);
+          bytes-below s (nextRow c) (λ place. refl) 1024 many (head .next) (q * c .inputs + i) (digits-lt hq hi);
       hold = timed .hold;
       delayed = timed .delayed;
       not-idle = timed .not-idle;
@@ -165,12 +168,12 @@ made-well old s c n head timed =
       length = timed .length;
       region = timed .region;
       sets = timed .sets;
-      output-uses = filled-uses (byteEntry s 14) (c .states) 32 few;
+      output-uses = filled-uses (byteEntry s outputField) (c .states) 32 few;
       next-uses = filled-uses (byteEntry s (nextField c)) pairs 1024 many;
       hold-uses = filled-uses (wordEntry s (holdField c)) _ 32 (holders-few n (c .states) few);
       delayed-uses = filled-uses (wordEntry s (delayedField c)) _ 32 (holders-few n (c .states) few);
       timing-uses = filled-uses (wordEntry s (holdField c)) (2 * n) 8 (omega arith);
-      sets-uses = filled-uses (wordEntry s (timerSets c n)) (c .states * n) 128 rows;
+      sets-uses = filled-uses (wordEntry s (timerSetField c n)) (c .states * n) 128 rows;
     }
 
 pub well-formed-by : (old : Bool) (s : List ℕ) → answerBy old s ≡ Passes → WellFormedBy old (tableIn s)

@@ -3,7 +3,8 @@ ghost use mathlib.Core.Path.{_≡_};
 ghost use Prim.Native.Nat.{_+_, _*_, _≤_};
 ghost use lib.ListN.{length};
 ghost use Rattle.wire.specs.Field.{number32At};
-ghost use Rattle.table.specs.Check.{fieldAnswer, badWord, bytesAnswer, wordsAnswer, setAnswer, setsAnswer, timerAnswer, timersRow};
+ghost use Rattle.table.specs.Check.{fieldAnswer, bytesAnswer, wordsAnswer, setAnswer, setsAnswer, timerAnswer, timersRow};
+ghost use Rattle.table.specs.Inner.{byteRow, badWord, wordRow};
 use super::Answer;
 use super::LONGEST_HOLD;
 use super::or_else;
@@ -31,7 +32,7 @@ pub fn expect_field(s: &[u8], at: usize, tag: u8, size: usize) -> Answer
 // A field of n entries of one byte, each below the limit.
 pub fn check_bytes(s: &[u8], at: usize, tag: u8, n: usize, limit: u8) -> Answer
     requires { ⌜ at ≤ length (now s) ⌝ }
-    ensures { λ r. ⌜ r ≡ bytesAnswer (now (s .entry)) at tag n limit ⌝ }
+    ensures { λ r. ⌜ r ≡ bytesAnswer (now (s .entry)) (byteRow at tag n limit) ⌝ }
 {
     let stands = expect_field(s, at, tag, n);
     let Answer::Passes = stands else {
@@ -61,7 +62,7 @@ fn bad_word(tag: u8, place: usize) -> Answer
 // A field of n entries of four bytes, each below the limit.
 pub fn check_words(s: &[u8], at: usize, tag: u8, n: usize, limit: u64) -> Answer
     requires { ⌜ (at ≤ length (now s)) × (n ≤ 128) ⌝ }
-    ensures { λ r. ⌜ r ≡ wordsAnswer (now (s .entry)) at tag n limit ⌝ }
+    ensures { λ r. ⌜ r ≡ wordsAnswer (now (s .entry)) (wordRow at tag n limit) ⌝ }
 {
     let stands = expect_field(s, at, tag, 4 * n);
     let Answer::Passes = stands else {

@@ -1,6 +1,7 @@
 -- Each way out is a step along `holdsAnswer`; a field that stands lets the next be looked for.
 use native.Mathlib.Omega.{arith}
 use Rattle.table.specs.Check.{holdsAnswer}
+use Rattle.table.specs.Inner.{badWord}
 use Rattle.table.proofs.Answers.{stops}
 use Rattle.table.proofs.Rows.{row-fits, no-sets, table-ends}
 use borrow.Author.Needs.{needs}
@@ -8,7 +9,7 @@ use Rattle.table.proofs.check_holds.Statement.{statement}
 use Rattle.table.proofs.check_holds.Tie as tie
 
 returns : tie.Need-returns
-unfolding holdsAnswer
+unfolding holdsAnswer badWord
 returns c =
     let found = c .before in
     stops _ (rw (found .before .before .before .pre .0 .hold) at (found .check-words .ensures)) (c .match .keys2)

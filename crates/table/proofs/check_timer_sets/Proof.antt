@@ -3,6 +3,7 @@ use Prim.Native.Nat.{_*_, _≤_}
 use native.Mathlib.Nat.{mul-le-mul}
 use native.Mathlib.Omega.{arith}
 use Rattle.table.specs.Check.{timerSetsAnswer}
+use Rattle.table.specs.Inner.{badWord}
 use Rattle.table.proofs.Answers.{stops, past}
 use Rattle.table.proofs.Rows.{row-fits}
 use borrow.Author.Needs.{needs}
@@ -19,11 +20,11 @@ check-words-requires : tie.Need-check-words-requires
 check-words-requires c κs = (c .before .before .before .before .pre .0, omega (arith, few (c .before .before .before .before)))
 
 returns : tie.Need-returns
-unfolding timerSetsAnswer
+unfolding timerSetsAnswer badWord
 returns c = stops _ (rw (c .before .before .set-limit .ensures) at (c .before .check-words .ensures)) (c .match .keys2)
 
 returns-2 : tie.Need-returns-2
-unfolding timerSetsAnswer
+unfolding timerSetsAnswer badWord
 returns-2 c =
     let told = c .before .before in
     past (rw (told .before .before .set-limit .ensures) at (told .before .check-words .ensures)) (told .match .keys1) (c .or-else .ensures)

@@ -1,6 +1,6 @@
 -- The code's test is the definition's.
 use borrow.Author.Tests.{eq-eqb, ne-eqb}
-use Rattle.table.specs.Check.{badWord}
+use Rattle.table.specs.Inner.{badWord}
 use Rattle.table.proofs.fields.bad_word.Statement.{statement}
 use Rattle.table.proofs.fields.bad_word.Tie as tie
 

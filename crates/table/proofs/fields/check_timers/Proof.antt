@@ -38,8 +38,5 @@ returns-3 : tie.Need-returns-3 Inv-loop μ-loop
 returns-3 c = all-checked (c .before .loop .inv) (search needs)
 
 pub check-timers-spec : {M : Type 1} → statement M
-check-timers-spec =
-    tie.close
-    (tie.spec Inv-loop μ-loop (λ c. search needs) (λ c κs. search needs) (λ c. search needs) returns loop-holds
-    (λ c. search needs) (λ c. search needs) (λ c. search needs) (λ c κs. search needs) (λ c. search needs)
-    returns-2 (λ c. search needs) (λ c. search needs) loop-again returns-3)
+check-timers-spec = tie.close
+    (tie.spec Inv-loop μ-loop (λ c. search needs) (λ c κs. search needs) (λ c. search needs) returns loop-holds (λ c. search needs) (λ c. search needs) (λ c. search needs) (λ c κs. search needs) (λ c. search needs) returns-2 (λ c. search needs) (λ c. search needs) loop-again returns-3)

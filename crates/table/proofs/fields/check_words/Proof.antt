@@ -1,7 +1,8 @@
 -- The loop keeps `Checking`; each way out is one of its laws.
 use mathlib.Core.Path.{_∙_}
 use Prim.Native.Nat.{_+_, _-_, _*_}
-use Rattle.table.specs.Check.{below, wordEntry, badWord}
+use Rattle.table.specs.Check.{below, wordEntry}
+use Rattle.table.specs.Inner.{badWord}
 use Rattle.table.proofs.Rows.{Checking, no-field, none-checked, all-checked, bad-entry, good-entry, is-called, is-below, bad-word-refuses}
 use borrow.Author.Needs.{needs}
 use Rattle.table.proofs.fields.check_words.Statement.{statement}
@@ -31,8 +32,5 @@ returns-3 : tie.Need-returns-3 Inv-loop μ-loop
 returns-3 c = all-checked (c .before .loop .inv) (search needs)
 
 pub check-words-spec : {M : Type 1} → statement M
-check-words-spec =
-    tie.close
-    (tie.spec Inv-loop μ-loop (λ c. search needs) (λ c κs. search needs) (λ c. search needs) returns loop-holds
-    (λ c. search needs) (λ c. search needs) (λ c. search needs) (λ c κs. search needs) (λ c. search needs)
-    (λ c κs. search needs) returns-2 (λ c. search needs) (λ c. search needs) loop-again returns-3)
+check-words-spec = tie.close
+    (tie.spec Inv-loop μ-loop (λ c. search needs) (λ c κs. search needs) (λ c. search needs) returns loop-holds (λ c. search needs) (λ c. search needs) (λ c. search needs) (λ c κs. search needs) (λ c. search needs) (λ c κs. search needs) returns-2 (λ c. search needs) (λ c. search needs) loop-again returns-3)
