@@ -26,7 +26,7 @@ use Rattle.machine.specs.declared.Machine.{Machine}
 use Rattle.machine.specs.Machine.{start, allowed, verdict, after}
 use Rattle.machine.specs.Run.{Runs}
 use Rattle.machine.specs.Walk.{inTable, filled}
-use Rattle.machine.proofs.Steps.{taken-step, verdict-small}
+use Rattle.machine.proofs.Steps.{taken-step, end-taken, verdict-small}
 use Rattle.runtime.specs.declared.Answer.the-variants.{TableRefused}
 use Rattle.runtime.specs.Run.{journalMade, madeOfRun, madeUnder, runOf}
 use Rattle.machine.specs.RunsOver.{RunsOver}
@@ -141,13 +141,7 @@ runs : (t : Table) → 1 ≤ t .bound → (end k n : ℕ) → k + n ≡ end → 
     (taken : List Record) × (last : Machine) × (map eventFor taken ≡ cycles k n ++ End end ∷ []) × Runs t m taken last
 unfolding cycles filled
 runs t bound end k zero is m ready =
-    let ended = taken-step t m (End end) (record {
-      in-order = omega (arith, ready .time-is);
-      in-cycle = omega (arith, ready .start-is);
-      in-phase = rw (ready .phase-is) refl;
-      is-settled = refl;
-      agreed = refl;
-    }) in
+    let ended = end-taken t m end (ready .phase-is) (omega (arith, ready .time-is)) (omega (arith, ready .start-is)) in
     (End end ∷ [], after t m (End end), refl, (ended, refl))
 runs t bound end k (suc n) is m ready =
     let polls = filled t m (Poll (suc k) 0) in

@@ -33,7 +33,7 @@ use Rattle.records.proofs.Written.{journal-recovers, opening-written, opening-r
 use Rattle.machine.specs.declared.Machine.{Machine}
 use Rattle.machine.specs.Machine.{start, after}
 use Rattle.machine.specs.Walk.{inTable, Walk, ended, stopped, walk, ran, ranFrom, recordsRun, runOver}
-use Rattle.machine.proofs.Steps.{taken-step}
+use Rattle.machine.proofs.Steps.{end-taken}
 use Rattle.machine.proofs.Over.{went-through, goes-through, opened-with}
 use Rattle.journal.specs.declared.Answer.the-variants as checked
 use Rattle.journal.specs.Check.{checkIn, numbersOf, answerOfRun, checkOf, checkUnder}
@@ -131,13 +131,7 @@ module _ (t : Table) (s : List ℕ) (input : ℕ) where
         RunsOver journal t (resultOf cut) input (rest .front .records ++ End (cut .time) ∷ []) (after t (rest .machine) (End (cut .time)))
     runs-to-the-cut cut rest =
         let m = rest .machine in
-        let ends = taken-step t m (End (cut .time)) (record {
-          in-order = omega (arith, rest .time-is);
-          in-cycle = omega (arith, rest .start-is);
-          in-phase = rw (rest .phase-is) refl;
-          is-settled = refl;
-          agreed = refl;
-        }) in
+        let ends = end-taken t m (cut .time) (rest .phase-is) (omega (arith, rest .time-is)) (omega (arith, rest .start-is)) in
         front-closed t s input (cut .bytes) m (rest .front) (rest .within) (cut .time) (opens .in-range) (omega (arith, rest .low)) (rest .early) ends
 
 -- ---- What is made

@@ -39,7 +39,8 @@ use Rattle.machine.specs.Machine.{lastChange, regionsAfter, after, gate,
 use Rattle.machine.specs.Most.{most}
 use Rattle.machine.specs.Run.{mostLeft}
 use Rattle.machine.specs.Walk.{inTable, filled, completed, Walk, ended, stopped, took, onwards, walk, tooLong, ranFrom, recordsRun, runOpened, runOver}
-use Rattle.machine.specs.AsTimers.{holdingFrom, holding, stateOf, timerRow, setRow, inRows, asTimers, withRegions, Alike}
+use Rattle.machine.specs.AsTimers.{holdingFrom, holding, stateOf, timerRow, setRow, inRows, asTimers, Alike}
+use Rattle.machine.specs.Becomes.{_regions-becomes_}
 use Rattle.machine.specs.AsTimers.{SameOverBytes, both-ran, both-too-long, both-refused, FewHolds, AsTimersJudgeAlike}
 use Rattle.machine.proofs.Watches.{Some, Each, four, each-timer, some-timer, region-after, watch-idle, stronger-idle}
 use Rattle.machine.proofs.Watches.{rule-by-state, left-by-state, rule-by-timers, left-by-timers, no-timer, no-regions, no-holds}
@@ -153,7 +154,7 @@ module _ (t : Table) where
 
   -- What holds of each machine that differs from m in its regions alone holds of one that is alike.
   by-regions : {m′ m : Machine} (P : Machine → Type 0) → Alike t m′ m →
-      ((regions : Regions) → Alike t (withRegions m regions) m → P (withRegions m regions)) → P m′
+      ((regions : Regions) → Alike t (m regions-becomes regions) m → P (m regions-becomes regions)) → P m′
   by-regions {m′} P alike h = subst P (sym (alike .same)) (h (m′ .regions) (record { same = refl; since = alike .since }))
 
 -- ---- The table with timers
@@ -254,9 +255,9 @@ module _ (t : Table) (good : WellFormed t) (few : FewHolds t) where
 
   -- ---- Two machines that are alike
 
-  module _ (m : Machine) (regions : Regions) (alike : Alike t (withRegions m regions) m) where
+  module _ (m : Machine) (regions : Regions) (alike : Alike t (m regions-becomes regions) m) where
     abbrev m′ : Machine
-    m′ = withRegions m regions
+    m′ = m regions-becomes regions
 
     -- The timer of the present state is its hold, and no other timer holds.
     own-timer : (k : ℕ) → k < timers → m .state ≡ stateOf t k → timerWatch t′ m′ k ≡ stateWatch t m

@@ -10,9 +10,9 @@ use Rattle.table.specs.Entries.{filledTo, zeros}
 use Rattle.records.specs.declared.Record.{Record}
 use Rattle.records.specs.declared.Refusal.{Refusal}
 use Rattle.records.specs.Form.{Form}
-use Rattle.machine.specs.declared.Regions.{Regions}
 use Rattle.machine.specs.declared.Machine.{Machine}
-use Rattle.machine.specs.Machine.{machine, start, entryInto}
+use Rattle.machine.specs.Becomes.{_regions-becomes_}
+use Rattle.machine.specs.Machine.{start, entryInto}
 use Rattle.machine.specs.Run.{mostLeft}
 use Rattle.machine.specs.Walk.{RunOverBytes, ran, tooLong, refused, runOver}
 
@@ -63,14 +63,9 @@ asTimers t =
 
 -- ---- The same run
 
--- The machine, had the regions been entered at other times.
-abbrev pub withRegions : Machine → Regions → Machine
-withRegions m regions =
-    machine (m .phase) (m .input) (m .polled) (m .state) (m .change) (m .entry) (m .start) (m .time) (m .longest) regions
-
 -- Of two machines only the regions may differ. Where the present state has a timer, its region was entered when the state was.
 pub record Alike (t : Table) (m′ m : Machine) : Type 0 where
-  pub same : m′ ≡ withRegions m (m′ .regions)
+  pub same : m′ ≡ (m regions-becomes m′ .regions)
   pub since : (k : ℕ) → k < length (holding t) → stateOf t k ≡ m .state → entryInto (m′ .regions) k ≡ m .entry
 
 -- Both took the same records, and the last machines are alike; both are too long; or both refuse alike.

@@ -1,4 +1,5 @@
 pub mod Verdict
+pub mod Becomes
 pub mod Machine
 pub mod Most
 pub mod Run
