@@ -11,10 +11,10 @@ use Rattle.table.specs.declared.Table.{Table}
 use Rattle.table.specs.Table.{holdOf, WellFormed}
 use Rattle.machine.proofs.Watches.{no-regions}
 use Rattle.reaction.specs.declared.Answer.the-variants.{Reacts}
-use Rattle.reaction.specs.Reaction.{nextSet, weight}
+use Rattle.reaction.specs.Reaction.{nextSet, fromHold, weight}
 use Rattle.reaction.specs.Meaning.{Slowest, Reaction}
 use Rattle.reaction.proofs.Meaning.{AllExist, target-has, target-only, same-target, means}
-use Rattle.tight.specs.Tight.{fromHold, needOf, tightTime}
+use Rattle.tight.specs.Tight.{needOf, tightTime}
 use Rattle.tight.proofs.Time.{tight-covers, tight-at-least}
 use Rattle.runs.specs.Accepted.{Accepted}
 use Rattle.runs.specs.Reaction.{Weights}

@@ -1,7 +1,7 @@
 -- A table whose idle sets are emptied judges everything as the table does.
 use mathlib.Core.Path.{_≡_, refl, sym, ap, _∙_, fun-ext}
 use mathlib.Core.List.{List, [], _∷_}
-use mathlib.Core.Bool.{Bool, true, false, not}
+use mathlib.Core.Bool.{Bool, true, false}
 use Prim.Native.Nat.{ℕ, zero, suc, _+_, _-_, _*_, _≤_, max}
 use native.Mathlib.Omega.{arith}
 use borrow.Author.Tests.{ltb-true, ltb-false, ne-eqb}
@@ -29,9 +29,9 @@ use Rattle.machine.specs.Most as machine
 use Rattle.machine.specs.Run.{mostLeft}
 use Rattle.machine.specs.Walk.{RunOverBytes, ran, tooLong, refused, inTable, filled, completed, onwards, walk, ranFrom, recordsRun, runOpened, runOver}
 use Rattle.journal.specs.Check.{answerOfRun, checkUnder}
-use Rattle.reaction.specs.Reaction.{nextSet, weightOf, weight, reactionTime, firstLeaving, reactionOf}
-use Rattle.tight.specs.Tight.{fromHold, needOf, outside, tightTime}
-use Rattle.moves.specs.Moves.{nextTimes, onPath, mostAhead, round, sumsOf, rows, pathFrom, largestSum, worstStart, worstPath, judge, reactionOver, sumsOver, pathOver}
+use Rattle.reaction.specs.Reaction.{nextSet, offTarget, weightOf, fromHold, weight, reactionTime, firstLeaving, reactionOf}
+use Rattle.tight.specs.Tight.{needOf, tightTime}
+use Rattle.moves.specs.Moves.{nextTimes, mostAhead, round, sumsOf, rows, pathFrom, largestSum, worstStart, worstPath, judge, reactionOver, sumsOver, pathOver}
 use Rattle.convert.specs.Convert.{newSet, emptied}
 
 -- ---- One state
@@ -194,7 +194,7 @@ module _ (t : Table) (few : t .states ≤ 32) (uses : Uses (t .states) 32 (t .de
   -- One move.
   time-same : (P A : ℕ) → reactionTime t′ P A ≡ reactionTime t P A
   unfolding reactionTime nextSet emptied
-  time-same P A = ap (λ w. t .bound + largest (t .states) (λ p. member P p and not (member (nextSet t P A) p)) w) (weights-same A)
+  time-same P A = ap (λ w. t .bound + largest (t .states) (offTarget P (nextSet t P A)) w) (weights-same A)
 
   pub reactions-same : (P A : ℕ) → reactionOf t′ P A ≡ reactionOf t P A
   unfolding reactionOf firstLeaving nextSet emptied
@@ -204,7 +204,7 @@ module _ (t : Table) (few : t .states ≤ 32) (uses : Uses (t .states) 32 (t .de
   unfolding tightTime nextSet emptied
   tight-same P A =
       let target = nextSet t P A in
-      ap (λ need. if some (t .states) (outside P target) then largest (t .states) (outside P target) need else t .bound) (needs-same A)
+      ap (λ need. if some (t .states) (offTarget P target) then largest (t .states) (offTarget P target) need else t .bound) (needs-same A)
 
   -- Several moves.
   target-same : (P A n : ℕ) → nextTimes t′ P A n ≡ nextTimes t P A n
@@ -219,7 +219,7 @@ module _ (t : Table) (few : t .states ≤ 32) (uses : Uses (t .states) 32 (t .de
   module _ (P A N : ℕ) where
     round-same : (row : List ℕ) → round t′ P A N row ≡ round t P A N row
     unfolding round emptied
-    round-same row = ap (λ w. values (λ q. if onPath t P A N q then w q + mostAhead t P A N row q else 0) (t .states)) (weights-same A)
+    round-same row = ap (λ w. values (λ q. if offTarget P N q then w q + mostAhead t P A N row q else 0) (t .states)) (weights-same A)
 
     sums-same : (k : ℕ) → sumsOf t′ P A N k ≡ sumsOf t P A N k
     unfolding sumsOf emptied

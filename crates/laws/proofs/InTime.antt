@@ -11,10 +11,9 @@ use Rattle.sets.proofs.Members.{some-if}
 use Rattle.table.specs.declared.Table.{Table}
 use Rattle.table.specs.Table.{holdOf, delays, nextOf}
 use Rattle.machine.proofs.Watches.{no-regions}
-use Rattle.reaction.specs.Reaction.{weightOf, weight}
+use Rattle.reaction.specs.Reaction.{weightOf, fromHold, weight}
 use Rattle.reaction.specs.Meaning.{Known, Pairs}
 use Rattle.reaction.proofs.Meaning.{AllExist}
-use Rattle.tight.specs.Tight.{fromHold}
 use Rattle.moves.specs.Moves.{nextTimes, mostAhead, sumsOf, largestSum, reactionOver}
 use Rattle.runs.specs.Reaction.{Weights, Reach, there, via, Suffices}
 use Rattle.runs.specs.Slots.{SlotsNotTooLate}

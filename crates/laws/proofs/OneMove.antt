@@ -20,7 +20,7 @@ use Rattle.table.proofs.Answers.{decided}
 use Rattle.table.proofs.WellFormed.{well-formed}
 use Rattle.reaction.specs.declared.Answer.the-variants as one
 use Rattle.reaction.specs.Answer as reaction
-use Rattle.reaction.specs.Reaction.{nextSet, weight, reactionTime, firstLeaving, reactionOf, forHolds, reactOf}
+use Rattle.reaction.specs.Reaction.{nextSet, offTarget, weight, reactionTime, firstLeaving, reactionOf, forHolds, reactOf}
 use Rattle.reaction.proofs.Entry.{has-holds, has-timers}
 use Rattle.reaction.proofs.Meaning.{AllExist, known}
 use Rattle.moves.specs.declared.Judged.{Judged}
@@ -28,7 +28,7 @@ use Rattle.moves.specs.declared.Judged.the-variants.{Passes, HasTimers, Unknown
 use Rattle.moves.specs.declared.Answer.the-variants.{Reacts, Refused}
 use Rattle.moves.specs.Answer as moves
 use Rattle.moves.specs.Answer.{judgedPasses?}
-use Rattle.moves.specs.Moves.{nextTimes, onPath, sumsOf, largestSum, judge, judgeOf, reactionOver, movesOf}
+use Rattle.moves.specs.Moves.{nextTimes, sumsOf, largestSum, judge, judgeOf, reactionOver, movesOf}
 use Rattle.laws.specs.Moves.{withoutLength, OneMove}
 use Rattle.laws.proofs.Rounds.{exists, passed, on-path, none-ahead}
 
@@ -44,7 +44,7 @@ largest-same (suc n) test f g same = rw (largest-same n test f g same, last (tes
 -- ---- Time and target
 
 module _ {t : Table} {P A : ℕ} (all : AllExist t P A) where
-  row-of-weights : (N q : ℕ) → onPath t P A N q ≡ true → getD (sumsOf t P A N 1) q 0 ≡ weight t A q
+  row-of-weights : (N q : ℕ) → offTarget P N q ≡ true → getD (sumsOf t P A N 1) q 0 ≡ weight t A q
   row-of-weights N q e =
       let on = passed all N q e in
       let none = none-ahead all N q (exists all N on) in
@@ -52,7 +52,7 @@ module _ {t : Table} {P A : ℕ} (all : AllExist t P A) where
 
   same-time : reactionOver t P A 1 .time ≡ reactionTime t P A
   unfolding reactionOver reactionTime nextTimes largestSum
-  same-time = ap (λ n. t .bound + n) (largest-same (t .states) (onPath t P A (nextSet t P A)) _ (weight t A) (row-of-weights (nextSet t P A)))
+  same-time = ap (λ n. t .bound + n) (largest-same (t .states) (offTarget P (nextSet t P A)) _ (weight t A) (row-of-weights (nextSet t P A)))
 
   same-target : reactionOver t P A 1 .target ≡ nextSet t P A
   unfolding reactionOver nextTimes

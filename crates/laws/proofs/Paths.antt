@@ -15,7 +15,8 @@ use Rattle.table.specs.declared.Table.{Table}
 use Rattle.table.specs.Table.{nextOf, WellFormed}
 use Rattle.reaction.specs.Meaning.{Known}
 use Rattle.reaction.proofs.Meaning.{AllExist}
-use Rattle.moves.specs.Moves.{onPath, ahead, mostAhead, worstInput, sumsOf, pathFrom, largestSum, worstStart, worstPath}
+use Rattle.reaction.specs.Reaction.{offTarget}
+use Rattle.moves.specs.Moves.{ahead, mostAhead, worstInput, sumsOf, pathFrom, largestSum, worstStart, worstPath}
 use Rattle.laws.specs.Paths.{statesIn, Begins, sumOf, OnPath, Follows, Path, PathOf, LargestFrom, Largest, ByTurns, SmallestInputs, Worst}
 use Rattle.laws.specs.Paths.{SumsAreLargest, LargestOfAll, WrittenIsWorst}
 use Rattle.moves.proofs.Smallest.{IsWorst, worst-found}
@@ -123,7 +124,7 @@ module _ {t : Table} {P A : ℕ} (all : AllExist t P A) (N : ℕ) where
   sums-largest k q l = record {
     none-larger = bounded k q;
     some = some k;
-    otherwise = λ off. go off (onPath t P A N q) refl;
+    otherwise = λ off. go off (offTarget P N q) refl;
   }
     where
       some : (k : ℕ) → 0 < k → OnPath P N q →
@@ -133,7 +134,7 @@ module _ {t : Table} {P A : ℕ} (all : AllExist t P A) (N : ℕ) where
           let from = path-from k q on in
           (statesIn (pathFrom t P A N k q), begins-states (from .begins), from .is-path, from .sum)
 
-      go : (OnPath P N q → ⊥) → (b : Bool) → onPath t P A N q ≡ b → getD (sumsOf t P A N k) q 0 ≡ 0
+      go : (OnPath P N q → ⊥) → (b : Bool) → offTarget P N q ≡ b → getD (sumsOf t P A N k) q 0 ≡ 0
       go off true e = absurd (off (passed all N q e))
       go off false e = off-path all N k q l e
 
@@ -141,7 +142,7 @@ module _ {t : Table} {P A : ℕ} (all : AllExist t P A) (N : ℕ) where
 
   pub at-most : (n q : ℕ) → OnPath P N q → getD (sumsOf t P A N n) q 0 ≤ largestSum t P A N n
   unfolding largestSum
-  at-most n q on = largest-covers (t .states) (onPath t P A N) (λ q. getD (sumsOf t P A N n) q 0) q (exists all N on) (tested all N on)
+  at-most n q on = largest-covers (t .states) (offTarget P N) (λ q. getD (sumsOf t P A N n) q 0) q (exists all N on) (tested all N on)
 
   covered : (n : ℕ) (path : List ℕ) → PathOf t P A N n path → sumOf t A path ≤ largestSum t P A N n
   unfolding sumOf
@@ -179,7 +180,7 @@ module _ {t : Table} {P A : ℕ} (all : AllExist t P A) (N : ℕ) where
     sym none,
   )
 
-  module _ (k q : ℕ) (worst : IsWorst (t .states) (onPath t P A N) (λ q. getD (sumsOf t P A N (suc k)) q 0) q)
+  module _ (k q : ℕ) (worst : IsWorst (t .states) (offTarget P N) (λ q. getD (sumsOf t P A N (suc k)) q 0) q)
       (some : 0 < largestSum t P A N (suc k)) {row : List ℕ} (from : From k q row) where
     whole : sumOf t A (statesIn row) ≡ largestSum t P A N (suc k)
     unfolding largestSum
@@ -217,10 +218,10 @@ module _ {t : Table} {P A : ℕ} (all : AllExist t P A) (N : ℕ) where
   from-worst : (n : ℕ) → 0 < largestSum t P A N n → Written n (pathFrom t P A N (n - 1) (worstStart t P A N n))
   unfolding largestSum worstStart
   from-worst zero some =
-      let worst = worst-found (t .states) (onPath t P A N) (λ q. getD (sumsOf t P A N 0) q 0) some in
+      let worst = worst-found (t .states) (offTarget P N) (λ q. getD (sumsOf t P A N 0) q 0) some in
       absurd (let z : ⊥ = omega (arith, worst .is, before all N _ (worst .below)) in z)
   from-worst (suc k) some =
-      let worst = worst-found (t .states) (onPath t P A N) (λ q. getD (sumsOf t P A N (suc k)) q 0) some in
+      let worst = worst-found (t .states) (offTarget P N) (λ q. getD (sumsOf t P A N (suc k)) q 0) some in
       let follow : suc k - 1 ≡ k = omega arith in
       rw follow (something k _ worst some (path-from k _ (passed all N _ (worst .passes))))
 

@@ -13,9 +13,9 @@ use Rattle.sets.proofs.Members.{largest-covers, largest-reached, Reaching}
 use Rattle.table.specs.declared.Table.{Table}
 use Rattle.table.specs.Table.{nextOf, holdOf, delays}
 use Rattle.table.proofs.Values.{getD-values}
-use Rattle.reaction.specs.Reaction.{weight, weightOf}
+use Rattle.reaction.specs.Reaction.{offTarget, weight, weightOf}
 use Rattle.reaction.proofs.Meaning.{AllExist}
-use Rattle.moves.specs.Moves.{onPath, ahead, mostAhead, round, sumsOf}
+use Rattle.moves.specs.Moves.{ahead, mostAhead, round, sumsOf}
 use Rattle.laws.specs.Paths.{OnPath}
 
 -- Every weight is above 0.
@@ -34,10 +34,10 @@ module _ {t : Table} {P A : ℕ} (all : AllExist t P A) (N : ℕ) where
   pub next-exists : (q a : ℕ) → q < t .states → member A a ≡ true → nextOf t q a < t .states
   next-exists q a l m = all .table .next q a l (all .inputs a m)
 
-  pub tested : {q : ℕ} → OnPath P N q → onPath t P A N q ≡ true
+  pub tested : {q : ℕ} → OnPath P N q → offTarget P N q ≡ true
   tested {q} on = and-both (member P q) _ (on .is-in) (ap not (on .outside))
 
-  pub passed : (q : ℕ) → onPath t P A N q ≡ true → OnPath P N q
+  pub passed : (q : ℕ) → offTarget P N q ≡ true → OnPath P N q
   passed q e = let b = both (member P q) _ e in record { is-in = b .0; outside = not-true (member N q) (b .1) }
 
   -- What a round has for q.
@@ -48,22 +48,22 @@ module _ {t : Table} {P A : ℕ} (all : AllExist t P A) (N : ℕ) where
   unfolding sumsOf
   before q l = getD-replicate (t .states) q 0 0 l
 
-  later : (k q : ℕ) → q < t .states → at (suc k) q ≡ (if onPath t P A N q then weight t A q + mostAhead t P A N (sumsOf t P A N k) q else 0)
+  later : (k q : ℕ) → q < t .states → at (suc k) q ≡ (if offTarget P N q then weight t A q + mostAhead t P A N (sumsOf t P A N k) q else 0)
   unfolding sumsOf round
   later k q l = getD-values _ (t .states) q l
 
   pub on-path : (k q : ℕ) → OnPath P N q → at (suc k) q ≡ weight t A q + mostAhead t P A N (sumsOf t P A N k) q
   on-path k q on = rw (tested on) at (later k q (exists on))
 
-  pub off-path : (k q : ℕ) → q < t .states → onPath t P A N q ≡ false → at k q ≡ 0
+  pub off-path : (k q : ℕ) → q < t .states → offTarget P N q ≡ false → at k q ≡ 0
   off-path zero q l off = before q l
   off-path (suc k) q l off = rw off at (later k q l)
 
   -- A sum above 0 is that of a state on a path.
   pub has-sum : (k q : ℕ) → q < t .states → 0 < at k q → OnPath P N q
-  has-sum k q l some = go (onPath t P A N q) refl
+  has-sum k q l some = go (offTarget P N q) refl
     where
-      go : (b : Bool) → onPath t P A N q ≡ b → OnPath P N q
+      go : (b : Bool) → offTarget P N q ≡ b → OnPath P N q
       go true e = passed q e
       go false e = absurd (let z : ⊥ = omega (arith, off-path k q l e) in z)
 

@@ -14,43 +14,43 @@ use Rattle.wire.proofs.Placed.{placed-after}
 use Rattle.sets.specs.Sets.{member, largest}
 use Rattle.moves.specs.declared.rounds.Way.{Way}
 use Rattle.moves.specs.Moves.{worst}
-use Rattle.moves.specs.Walks.{Steps, WorstMember, aheadIn, pathIn, inputIn, wholePath}
+use Rattle.moves.specs.Walks.{Steps, WorstMember, aheadStored, pathAlong, pathAfterInput, wholePathAlong}
 use Rattle.moves.proofs.Worsts.{is-largest, is-worst}
 
 module _ {next : ℕ → ℕ → ℕ} {way : Way} (steps : Steps next way) (sums : List ℕ) (q : ℕ) where
-  pub none-left : (left : ℕ) → left ≡ 0 → q ∷ [] ≡ pathIn next way sums left q
-  unfolding pathIn
+  pub none-left : (left : ℕ) → left ≡ 0 → q ∷ [] ≡ pathAlong next way sums left q
+  unfolding pathAlong
   none-left left e = rw e
 
-  module _ (left : ℕ) (some : 0 < left) {sum at : ℕ} (found : WorstMember (way .inputs) (aheadIn next way sums ((left - 1) * way .states) q) sum at) where
+  module _ (left : ℕ) (some : 0 < left) {sum at : ℕ} (found : WorstMember (way .inputs) (aheadStored next way sums ((left - 1) * way .states) q) sum at) where
     abbrev ahead : ℕ → ℕ
-    ahead = aheadIn next way sums ((left - 1) * way .states) q
+    ahead = aheadStored next way sums ((left - 1) * way .states) q
 
-    step : pathIn next way sums left q ≡
+    step : pathAlong next way sums left q ≡
         (if largest (way .width) (member (way .inputs)) ahead =? 0 then q ∷ []
-        else q ∷ inputIn next way sums left q (worst (way .width) (member (way .inputs)) ahead))
-    unfolding pathIn
-    step = let e : left ≡ suc (left - 1) = omega arith in ap (λ k. pathIn next way sums k q) e
+        else q ∷ pathAfterInput next way sums left q (worst (way .width) (member (way .inputs)) ahead))
+    unfolding pathAlong
+    step = let e : left ≡ suc (left - 1) = omega arith in ap (λ k. pathAlong next way sums k q) e
 
-    pub none-ahead : sum ≡ 0 → q ∷ [] ≡ pathIn next way sums left q
+    pub none-ahead : sum ≡ 0 → q ∷ [] ≡ pathAlong next way sums left q
     none-ahead e = sym (step ∙ rw (eq-eqb (largest (way .width) (member (way .inputs)) ahead) 0 (sym (is-largest (steps .inputs) found) ∙ e)))
 
-    pub goes-on : (sum ≡ 0 → ⊥) → q ∷ inputIn next way sums left q at ≡ pathIn next way sums left q
+    pub goes-on : (sum ≡ 0 → ⊥) → q ∷ pathAfterInput next way sums left q at ≡ pathAlong next way sums left q
     goes-on other =
         let l = is-largest (steps .inputs) found in
         let w = is-worst (steps .inputs) found (omega arith) in
         sym (step ∙ rw (ne-eqb (largest (way .width) (member (way .inputs)) ahead) 0 (λ z. other (l ∙ z)), ← w))
 
-pub path-length : (next : ℕ → ℕ → ℕ) (way : Way) (sums : List ℕ) (left q : ℕ) → length (pathIn next way sums left q) ≤ left + left + 1
-unfolding pathIn
+pub path-length : (next : ℕ → ℕ → ℕ) (way : Way) (sums : List ℕ) (left q : ℕ) → length (pathAlong next way sums left q) ≤ left + left + 1
+unfolding pathAlong
 path-length next way sums zero q = omega arith
-path-length next way sums (suc k) q = go (largest (way .width) (member (way .inputs)) (aheadIn next way sums (k * way .states) q) =? 0) (path-length next way sums k)
+path-length next way sums (suc k) q = go (largest (way .width) (member (way .inputs)) (aheadStored next way sums (k * way .states) q) =? 0) (path-length next way sums k)
   where
-    go : (b : Bool) → ((p : ℕ) → length (pathIn next way sums k p) ≤ k + k + 1) →
-        length (if b then q ∷ [] else q ∷ worst (way .width) (member (way .inputs)) (aheadIn next way sums (k * way .states) q) ∷ pathIn next way sums k (next q (worst (way .width) (member (way .inputs)) (aheadIn next way sums (k * way .states) q)))) ≤
+    go : (b : Bool) → ((p : ℕ) → length (pathAlong next way sums k p) ≤ k + k + 1) →
+        length (if b then q ∷ [] else q ∷ worst (way .width) (member (way .inputs)) (aheadStored next way sums (k * way .states) q) ∷ pathAlong next way sums k (next q (worst (way .width) (member (way .inputs)) (aheadStored next way sums (k * way .states) q)))) ≤
         suc k + suc k + 1
     go true r = omega arith
-    go false r = omega (arith, r (next q (worst (way .width) (member (way .inputs)) (aheadIn next way sums (k * way .states) q))))
+    go false r = omega (arith, r (next q (worst (way .width) (member (way .inputs)) (aheadStored next way sums (k * way .states) q))))
 
 -- ---- In a buffer
 
@@ -73,12 +73,12 @@ one-row-less left Q some = let e : left ≡ suc (left - 1) = omega arith in ap (
 
 module _ (next : ℕ → ℕ → ℕ) (way : Way) (sums : List ℕ) (follow sum q : ℕ) where
   pub no-path : (l : List ℕ) → sum ≡ 0 →
-      (0 ≡ length (wholePath next way sums follow sum q)) × (l ≡ placedIn l 0 (wholePath next way sums follow sum q))
-  unfolding wholePath
+      (0 ≡ length (wholePathAlong next way sums follow sum q)) × (l ≡ placedIn l 0 (wholePathAlong next way sums follow sum q))
+  unfolding wholePathAlong
   no-path l e = rw (eq-eqb sum 0 e) (refl, refl)
 
   pub whole-path : (sum ≡ 0 → ⊥) → (l : List ℕ) {new : List ℕ} {end : ℕ} →
-      end ≡ 0 + length (pathIn next way sums follow q) → new ≡ placedIn l 0 (pathIn next way sums follow q) →
-      (end ≡ length (wholePath next way sums follow sum q)) × (new ≡ placedIn l 0 (wholePath next way sums follow sum q))
-  unfolding wholePath
-  whole-path other l is holds = rw (ne-eqb sum 0 other) (is ∙ zero-add (length (pathIn next way sums follow q)), holds)
+      end ≡ 0 + length (pathAlong next way sums follow q) → new ≡ placedIn l 0 (pathAlong next way sums follow q) →
+      (end ≡ length (wholePathAlong next way sums follow sum q)) × (new ≡ placedIn l 0 (wholePathAlong next way sums follow sum q))
+  unfolding wholePathAlong
+  whole-path other l is holds = rw (ne-eqb sum 0 other) (is ∙ zero-add (length (pathAlong next way sums follow q)), holds)

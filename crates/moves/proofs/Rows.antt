@@ -16,7 +16,7 @@ use Rattle.sets.proofs.Members.{largest-reached, Reaching}
 use Rattle.table.specs.Entries.{values}
 use Rattle.table.proofs.Values.{length-values, getD-values, getD-zeros, Filling}
 use Rattle.moves.specs.declared.rounds.Way.{Way}
-use Rattle.moves.specs.Walks.{Steps, WorstMember, aheadIn, roundIn, rowIn, sumIn, sumFrom, heaviest, SumsFit}
+use Rattle.moves.specs.Walks.{Steps, WorstMember, aheadStored, roundStored, rowStored, sumStored, sumFromStored, heaviest, SumsFit}
 use Rattle.moves.proofs.Worsts.{is-largest}
 
 -- ---- The largest of several numbers
@@ -67,53 +67,53 @@ module _ {next : ℕ → ℕ → ℕ} {way : Way} (steps : Steps next way) (weig
 
   -- ---- What a number is
 
-  row-value : (k q : ℕ) → q < Q → getD (rowIn next way weigh (suc k)) q 0 ≡
-      (if weigh q =? 0 then 0 else weigh q + most (λ a. getD (rowIn next way weigh k) (next q a) 0))
-  unfolding rowIn roundIn
-  row-value k q low = getD-values (λ q. if weigh q =? 0 then 0 else weigh q + most (λ a. getD (rowIn next way weigh k) (next q a) 0)) Q q low
+  row-value : (k q : ℕ) → q < Q → getD (rowStored next way weigh (suc k)) q 0 ≡
+      (if weigh q =? 0 then 0 else weigh q + most (λ a. getD (rowStored next way weigh k) (next q a) 0))
+  unfolding rowStored roundStored
+  row-value k q low = getD-values (λ q. if weigh q =? 0 then 0 else weigh q + most (λ a. getD (rowStored next way weigh k) (next q a) 0)) Q q low
 
   -- In the first row a state has its weight.
-  nothing-ahead : (q : ℕ) → most (λ a. getD (rowIn next way weigh 0) (next q a) 0) ≡ 0
-  unfolding rowIn
+  nothing-ahead : (q : ℕ) → most (λ a. getD (rowStored next way weigh 0) (next q a) 0) ≡ 0
+  unfolding rowStored
   nothing-ahead q = le-zero (largest-at-most (way .width) (member (way .inputs)) _ 0 (λ a m. rw (getD-zeros Q (next q a)) (omega arith)))
 
   -- ---- How large it gets
 
   module _ (light : (q : ℕ) → weigh q ≤ heaviest) where
-    pub row-at-most : (k q : ℕ) → q < Q → getD (rowIn next way weigh k) q 0 ≤ k * heaviest
-    unfolding rowIn
+    pub row-at-most : (k q : ℕ) → q < Q → getD (rowStored next way weigh k) q 0 ≤ k * heaviest
+    unfolding rowStored
     row-at-most zero q low = rw (getD-zeros Q q) (omega arith)
     row-at-most (suc k) q low = rw (row-value k q low) (go (weigh q =? 0) (largest-at-most (way .width) (member (way .inputs)) _ (k * heaviest)
         (λ a m. row-at-most k (next q a) (steps .below q a low m))))
       where
-        go : (b : Bool) → most (λ a. getD (rowIn next way weigh k) (next q a) 0) ≤ k * heaviest →
-            (if b then 0 else weigh q + most (λ a. getD (rowIn next way weigh k) (next q a) 0)) ≤ suc k * heaviest
+        go : (b : Bool) → most (λ a. getD (rowStored next way weigh k) (next q a) 0) ≤ k * heaviest →
+            (if b then 0 else weigh q + most (λ a. getD (rowStored next way weigh k) (next q a) 0)) ≤ suc k * heaviest
         go true l = omega arith
         go false l = omega (arith, light q)
 
   -- ---- How a number comes from those before it
 
-  pub no-weight : (sums : List ℕ) (k : ℕ) → weigh (k % Q) ≡ 0 → 0 ≡ sumFrom next way weigh sums k
-  unfolding sumFrom
+  pub no-weight : (sums : List ℕ) (k : ℕ) → weigh (k % Q) ≡ 0 → 0 ≡ sumFromStored next way weigh sums k
+  unfolding sumFromStored
   no-weight sums k e = rw (eq-eqb (weigh (k % Q)) 0 e)
 
-  pub in-first-row : (sums : List ℕ) (k : ℕ) → (weigh (k % Q) ≡ 0 → ⊥) → k < Q → weigh (k % Q) ≡ sumFrom next way weigh sums k
-  unfolding sumFrom
+  pub in-first-row : (sums : List ℕ) (k : ℕ) → (weigh (k % Q) ≡ 0 → ⊥) → k < Q → weigh (k % Q) ≡ sumFromStored next way weigh sums k
+  unfolding sumFromStored
   in-first-row sums k some low = rw (ne-eqb (weigh (k % Q)) 0 some, lt-ltb k Q low)
 
   pub in-later-row : (sums : List ℕ) (k : ℕ) → (weigh (k % Q) ≡ 0 → ⊥) → Q ≤ k →
-      {sum at : ℕ} → WorstMember (way .inputs) (aheadIn next way sums (k - k % Q - Q) (k % Q)) sum at → weigh (k % Q) + sum ≡ sumFrom next way weigh sums k
-  unfolding sumFrom
+      {sum at : ℕ} → WorstMember (way .inputs) (aheadStored next way sums (k - k % Q - Q) (k % Q)) sum at → weigh (k % Q) + sum ≡ sumFromStored next way weigh sums k
+  unfolding sumFromStored
   in-later-row sums k some high found = rw (ne-eqb (weigh (k % Q)) 0 some, le-ltb k Q high) (ap (λ x. weigh (k % Q) + x) (is-largest (steps .inputs) found))
 
   -- ---- The loop that fills the rows
 
-  module _ {n k : ℕ} {before after : List ℕ} (inv : Filling (sumIn next way weigh) n before after k) where
-    filled-so-far : (j : ℕ) → j < k → getD after j 0 ≡ sumIn next way weigh j
+  module _ {n k : ℕ} {before after : List ℕ} (inv : Filling (sumStored next way weigh) n before after k) where
+    filled-so-far : (j : ℕ) → j < k → getD after j 0 ≡ sumStored next way weigh j
     filled-so-far j low =
         ap (λ l. getD l j 0) (inv .is)
-        ∙ List·getD-append (values (sumIn next way weigh) k) (drop k before) 0 j (rw length-values low)
-        ∙ getD-values (sumIn next way weigh) k j low
+        ∙ List·getD-append (values (sumStored next way weigh) k) (drop k before) 0 j (rw length-values low)
+        ∙ getD-values (sumStored next way weigh) k j low
 
     pub fit : (moves : ℕ) → moves ≤ 32 → n ≡ moves * Q → ((q : ℕ) → weigh q ≤ heaviest) → SumsFit way weigh after k
     fit moves few e light = record {
@@ -129,7 +129,7 @@ module _ {next : ℕ → ℕ → ℕ} {way : Way} (steps : Steps next way) (weig
 
     -- What the slice has for the next states is what the row before has.
     row-ahead : (high : Q ≤ k) (a : ℕ) → member (way .inputs) a ≡ true →
-        aheadIn next way after (k - k % Q - Q) (k % Q) a ≡ getD (rowIn next way weigh (k / Q)) (next (k % Q) a) 0
+        aheadStored next way after (k - k % Q - Q) (k % Q) a ≡ getD (rowStored next way weigh (k / Q)) (next (k % Q) a) 0
     row-ahead high a m =
         let some = steps .states .0 in
         let p = next (k % Q) a in
@@ -141,23 +141,23 @@ module _ {next : ℕ → ℕ → ℕ} {way : Way} (steps : Steps next way) (weig
         ∙ filled-so-far ((k / Q - 1) * Q + next (k % Q) a) early
         ∙ rw (digits-div (k / Q - 1) to, digits-mod (k / Q - 1) to, row)
 
-    pub next-sum : sumFrom next way weigh after k ≡ sumIn next way weigh k
-    unfolding sumFrom
+    pub next-sum : sumFromStored next way weigh after k ≡ sumStored next way weigh k
+    unfolding sumFromStored
     next-sum = go (weigh (k % Q) =? 0) refl (k <? Q) refl
       where
         low : k % Q < Q
         low = in-row Q k (steps .states .0)
 
         value : (r : ℕ) → k / Q ≡ r → (b : Bool) → (weigh (k % Q) =? 0) ≡ b →
-            (if b then 0 else weigh (k % Q) + most (λ a. getD (rowIn next way weigh r) (next (k % Q) a) 0)) ≡ sumIn next way weigh k
+            (if b then 0 else weigh (k % Q) + most (λ a. getD (rowStored next way weigh r) (next (k % Q) a) 0)) ≡ sumStored next way weigh k
         value r e b f = sym (rw (e, add-one r, row-value r (k % Q) low, f))
 
         go : (b : Bool) → (weigh (k % Q) =? 0) ≡ b → (c : Bool) → (k <? Q) ≡ c →
-            (if b then 0 else if c then weigh (k % Q) else weigh (k % Q) + most (aheadIn next way after (k - k % Q - Q) (k % Q))) ≡ sumIn next way weigh k
+            (if b then 0 else if c then weigh (k % Q) else weigh (k % Q) + most (aheadStored next way after (k - k % Q - Q) (k % Q))) ≡ sumStored next way weigh k
         go true e c f = value (k / Q) refl true e
         go false e true f =
             let first = value 0 (div-eq-of-lt (ltb-true k Q f)) false e in
-            let none : weigh (k % Q) ≡ weigh (k % Q) + most (λ a. getD (rowIn next way weigh 0) (next (k % Q) a) 0) = omega (arith, nothing-ahead (k % Q)) in
+            let none : weigh (k % Q) ≡ weigh (k % Q) + most (λ a. getD (rowStored next way weigh 0) (next (k % Q) a) 0) = omega (arith, nothing-ahead (k % Q)) in
             none ∙ first
         go false e false f =
             ap (λ x. weigh (k % Q) + x) (same-largest (way .width) (member (way .inputs)) _ _ (row-ahead (ltb-false k Q f)))
@@ -165,7 +165,7 @@ module _ {next : ℕ → ℕ → ℕ} {way : Way} (steps : Steps next way) (weig
 
   -- The sum ahead is small enough to be added.
   pub worst-fits : {sums : List ℕ} {k : ℕ} → SumsFit way weigh sums k → Q ≤ k →
-      {sum at : ℕ} → WorstMember (way .inputs) (aheadIn next way sums (k - k % Q - Q) (k % Q)) sum at → sum ≤ 32 * heaviest
+      {sum at : ℕ} → WorstMember (way .inputs) (aheadStored next way sums (k - k % Q - Q) (k % Q)) sum at → sum ≤ 32 * heaviest
   worst-fits {sums} {k} fits high {sum} {at} found =
       ⊎-elim (λ z. omega arith)
       (λ r.

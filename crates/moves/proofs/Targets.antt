@@ -7,7 +7,7 @@ use native.Mathlib.Omega.{arith}
 use Rattle.sets.specs.Sets.{member}
 use Rattle.reaction.specs.Meaning.{Pairs, NextStates}
 use Rattle.reaction.specs.Walks.{Walkable}
-use Rattle.moves.specs.Walks.{Times, StaysInside}
+use Rattle.moves.specs.Walks.{ComesByMoves, StaysInside}
 
 -- Next states stay inside the set that they come of.
 module _ {next : ℕ → ℕ → ℕ} {M : ℕ} (A : ℕ) {N : ℕ} (states : NextStates next M (Pairs M A) N) where
@@ -20,7 +20,7 @@ module _ {next : ℕ → ℕ → ℕ} {M : ℕ} (A : ℕ) {N : ℕ} (states : Ne
 -- After k of the moves.
 pub record Moved (next : ℕ → ℕ → ℕ) (width P A moves k set : ℕ) : Type 0 where
   pub low : k ≤ moves
-  pub times : Times next P A k set
+  pub times : ComesByMoves next P A k set
   pub closed : StaysInside next set A
   pub walkable : Walkable next width set A
 
@@ -36,5 +36,5 @@ module _ {next : ℕ → ℕ → ℕ} {width P A moves k set : ℕ} (inv : Moved
     walkable = record { few = inv .walkable .few; below = λ p a h. inv .walkable .below p a (inside A states p (h .0), h .1) };
   }
 
-  pub all-moved : moves ≤ k → Times next P A moves set
+  pub all-moved : moves ≤ k → ComesByMoves next P A moves set
   all-moved l = let e : k ≡ moves = omega (arith, inv .low) in rw e at (inv .times)

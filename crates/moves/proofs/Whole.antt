@@ -18,13 +18,13 @@ use Rattle.table.specs.declared.Table.{Table}
 use Rattle.table.specs.Table.{nextOf, holdOf, delays}
 use Rattle.table.specs.Entries.{values}
 use Rattle.table.proofs.Values.{getD-values, getD-zeros}
-use Rattle.reaction.specs.Reaction.{firstFrom, weight, nextSet}
+use Rattle.reaction.specs.Reaction.{firstFrom, offTarget, weight, nextSet}
 use Rattle.reaction.specs.Walks.{weightIn}
 use Rattle.reaction.proofs.Meaning.{AllExist, target-has, target-only, same-target}
 use Rattle.reaction.proofs.Findings.{same-weight, weight-at-most, weight-at-least}
 use Rattle.moves.specs.declared.rounds.Way.{Way}
-use Rattle.moves.specs.Moves.{nextTimes, worst, onPath, round, sumsOf, rows, pathFrom, largestSum, worstStart, worstPath, reactionOver, sumsOver, pathOver}
-use Rattle.moves.specs.Walks.{Times, Steps, Weighs, WorstMember, aheadIn, roundIn, rowIn, sumIn, pathIn, wholePath, heaviest}
+use Rattle.moves.specs.Moves.{nextTimes, worst, round, sumsOf, rows, pathFrom, largestSum, worstStart, worstPath, reactionOver, sumsOver, pathOver}
+use Rattle.moves.specs.Walks.{ComesByMoves, Steps, Weighs, WorstMember, aheadStored, roundStored, rowStored, sumStored, pathAlong, wholePathAlong, heaviest}
 use Rattle.moves.proofs.Rows.{same-largest, largest-at-most, row-at-most}
 use Rattle.moves.proofs.Worsts.{is-largest, is-worst, worst-in}
 use Rattle.moves.proofs.Smallest.{worst-found}
@@ -33,13 +33,13 @@ use Rattle.moves.proofs.AllRows.{length-rows, row-at}
 -- ---- The target
 
 module _ {t : Table} {P A : ℕ} (all : AllExist t P A) where
-  times-inside : (n N : ℕ) → Times (nextOf t) P A n N → (q : ℕ) → member N q ≡ true → member P q ≡ true
+  times-inside : (n N : ℕ) → ComesByMoves (nextOf t) P A n N → (q : ℕ) → member N q ≡ true → member P q ≡ true
   times-inside zero N e q m = rw e at m
   times-inside (suc n) N (M, before, states) q m =
       let c = states .only q m in
       times-inside n M before q (rw (c .is) at (states .inside (c .state) (c .input) (c .pair)))
 
-  pub times-are : (n N : ℕ) → Times (nextOf t) P A n N → N ≡ nextTimes t P A n
+  pub times-are : (n N : ℕ) → ComesByMoves (nextOf t) P A n N → N ≡ nextTimes t P A n
   unfolding nextTimes
   times-are zero N e = e
   times-are (suc n) N (M, before, states) =
@@ -108,8 +108,8 @@ module _ {t : Table} {P A : ℕ} (all : AllExist t P A) (N outside : ℕ) (rest 
   abbrev weigh : ℕ → ℕ
   weigh q = getD weights q 0
 
-  weighed : (q : ℕ) → weigh q ≡ (if onPath t P A N q then weight t A q else 0)
-  weighed q = weighs q ∙ rw (rest q) (ap (λ w. if onPath t P A N q then w else 0) (same-weight all q))
+  weighed : (q : ℕ) → weigh q ≡ (if offTarget P N q then weight t A q else 0)
+  weighed q = weighs q ∙ rw (rest q) (ap (λ w. if offTarget P N q then w else 0) (same-weight all q))
 
   abbrev delayed : ℕ → Bool
   delayed q = some (t .inputs) (λ a. member A a and delays t q a)
@@ -118,28 +118,28 @@ module _ {t : Table} {P A : ℕ} (all : AllExist t P A) (N outside : ℕ) (rest 
   some-weight q = omega (arith, all .table .bound, weight-at-least (holdOf t q) (t .bound) (delayed q))
 
   pub light : (q : ℕ) → weigh q ≤ heaviest
-  light q = rw (weighed q) (go (onPath t P A N q) refl)
+  light q = rw (weighed q) (go (offTarget P N q) refl)
     where
-      go : (b : Bool) → onPath t P A N q ≡ b → (if b then weight t A q else 0) ≤ heaviest
+      go : (b : Bool) → offTarget P N q ≡ b → (if b then weight t A q else 0) ≤ heaviest
       go true e =
           let hold = all .table .hold q (all .states q (both (member P q) _ e .0)) in
           omega (arith, weight-at-most (holdOf t q) (t .bound) (delayed q), hold, all .table .bound)
       go false e = omega arith
 
-  rounds-agree : (row : List ℕ) → roundIn (nextOf t) way weigh row ≡ round t P A N row
-  unfolding roundIn round
-  rounds-agree row = same-values (t .states) (λ q h. rw (weighed q) (go (onPath t P A N q) (weight t A q) _ (some-weight q)))
+  rounds-agree : (row : List ℕ) → roundStored (nextOf t) way weigh row ≡ round t P A N row
+  unfolding roundStored round
+  rounds-agree row = same-values (t .states) (λ q h. rw (weighed q) (go (offTarget P N q) (weight t A q) _ (some-weight q)))
     where
       go : (b : Bool) (w m : ℕ) → 1 ≤ w → (if (if b then w else 0) =? 0 then 0 else (if b then w else 0) + m) ≡ (if b then w + m else 0)
       go true w m l = rw (ne-eqb w 0 (λ z. omega arith))
       go false w m l = refl
 
-  pub rows-agree : (k : ℕ) → rowIn (nextOf t) way weigh k ≡ sumsOf t P A N k
-  unfolding rowIn sumsOf
+  pub rows-agree : (k : ℕ) → rowStored (nextOf t) way weigh k ≡ sumsOf t P A N k
+  unfolding rowStored sumsOf
   rows-agree zero = refl
-  rows-agree (suc k) = rounds-agree (rowIn (nextOf t) way weigh k) ∙ ap (round t P A N) (rows-agree k)
+  rows-agree (suc k) = rounds-agree (rowStored (nextOf t) way weigh k) ∙ ap (round t P A N) (rows-agree k)
 
-  place-agrees : (r q : ℕ) → q < t .states → sumIn (nextOf t) way weigh (r * t .states + q) ≡ getD (sumsOf t P A N (suc r)) q 0
+  place-agrees : (r q : ℕ) → q < t .states → sumStored (nextOf t) way weigh (r * t .states + q) ≡ getD (sumsOf t P A N (suc r)) q 0
   place-agrees r q low = rw (digits-div r low, digits-mod r low, add-one r, rows-agree (suc r))
 
   -- A row is the list of its numbers.
@@ -147,17 +147,17 @@ module _ {t : Table} {P A : ℕ} (all : AllExist t P A) (N outside : ℕ) (rest 
   unfolding sumsOf round
   row-listed n =
       same-values (t .states)
-      (λ q low. sym (getD-values (λ q. if onPath t P A N q then weight t A q + largest (t .inputs) (member A) (λ a. getD (sumsOf t P A N n) (nextOf t q a) 0) else 0) (t .states) q low))
+      (λ q low. sym (getD-values (λ q. if offTarget P N q then weight t A q + largest (t .inputs) (member A) (λ a. getD (sumsOf t P A N n) (nextOf t q a) 0) else 0) (t .states) q low))
 
-  pub all-rows : (n : ℕ) → values (sumIn (nextOf t) way weigh) (n * t .states) ≡ rows t P A N n
+  pub all-rows : (n : ℕ) → values (sumStored (nextOf t) way weigh) (n * t .states) ≡ rows t P A N n
   unfolding rows
-  all-rows zero = no-values (sumIn (nextOf t) way weigh) (zero-mul (t .states))
+  all-rows zero = no-values (sumStored (nextOf t) way weigh) (zero-mul (t .states))
   all-rows (suc n) =
-      let row : values (λ q. sumIn (nextOf t) way weigh (n * t .states + q)) (t .states) ≡ sumsOf t P A N (suc n) =
+      let row : values (λ q. sumStored (nextOf t) way weigh (n * t .states + q)) (t .states) ≡ sumsOf t P A N (suc n) =
       same-values (t .states) (place-agrees n) ∙ sym (row-listed n)
       in
-      ap (values (sumIn (nextOf t) way weigh)) (suc-mul n (t .states))
-      ∙ more-values (sumIn (nextOf t) way weigh) (n * t .states) (t .states)
+      ap (values (sumStored (nextOf t) way weigh)) (suc-mul n (t .states))
+      ∙ more-values (sumStored (nextOf t) way weigh) (n * t .states) (t .states)
       ∙ rw (all-rows n, row)
 
   sums-light : (k q : ℕ) → q < t .states → getD (sumsOf t P A N k) q 0 ≤ k * heaviest
@@ -167,7 +167,7 @@ module _ {t : Table} {P A : ℕ} (all : AllExist t P A) (N outside : ℕ) (rest 
   unfolding largestSum
   largest-light n few =
       let m : n * heaviest ≤ 32 * heaviest = mul-le-mul-right heaviest few in
-      let l = largest-at-most (t .states) (onPath t P A N) (λ q. getD (sumsOf t P A N n) q 0) (n * heaviest)
+      let l = largest-at-most (t .states) (offTarget P N) (λ q. getD (sumsOf t P A N n) q 0) (n * heaviest)
       (λ q on. sums-light n q (all .states q (both (member P q) _ on .0))) in
       omega arith
 
@@ -185,8 +185,8 @@ module _ {t : Table} {P A : ℕ} (all : AllExist t P A) (N n : ℕ) (after : Lis
         ∙ List·getD-append (rows t P A N n) behind 0 (r * t .states + q) (rw (length-rows t P A N n) (digits-lt row low))
         ∙ row-at t P A N n r q row low
 
-    pub path-agrees : (left q : ℕ) → left < n → q < t .states → pathIn (nextOf t) way′ after left q ≡ pathFrom t P A N left q
-    unfolding pathIn pathFrom
+    pub path-agrees : (left q : ℕ) → left < n → q < t .states → pathAlong (nextOf t) way′ after left q ≡ pathFrom t P A N left q
+    unfolding pathAlong pathFrom
     path-agrees zero q few low = refl
     path-agrees (suc k) q few low =
         rw (agree .0, agree .1) (go (largest (t .inputs) (member A) ahead =? 0) refl (path-agrees k))
@@ -194,8 +194,8 @@ module _ {t : Table} {P A : ℕ} (all : AllExist t P A) (N n : ℕ) (after : Lis
         ahead : ℕ → ℕ
         ahead a = getD (sumsOf t P A N (suc k)) (nextOf t q a) 0
 
-        agree : (largest (t .inputs) (member A) (aheadIn (nextOf t) way′ after (k * t .states) q) ≡ largest (t .inputs) (member A) ahead) ×
-            (worst (t .inputs) (member A) (aheadIn (nextOf t) way′ after (k * t .states) q) ≡ worst (t .inputs) (member A) ahead)
+        agree : (largest (t .inputs) (member A) (aheadStored (nextOf t) way′ after (k * t .states) q) ≡ largest (t .inputs) (member A) ahead) ×
+            (worst (t .inputs) (member A) (aheadStored (nextOf t) way′ after (k * t .states) q) ≡ worst (t .inputs) (member A) ahead)
         agree =
             same-worst (λ i. refl)
             (λ a m. rw (← add-one k) (place-has k (nextOf t q a) (omega arith) (all .table .next q a low (all .inputs a m)))) (t .inputs)
@@ -204,8 +204,8 @@ module _ {t : Table} {P A : ℕ} (all : AllExist t P A) (N n : ℕ) (after : Lis
         input = worst (t .inputs) (member A) ahead
 
         go : (b : Bool) → (largest (t .inputs) (member A) ahead =? 0) ≡ b →
-            ((p : ℕ) → k < n → p < t .states → pathIn (nextOf t) way′ after k p ≡ pathFrom t P A N k p) →
-            (if b then q ∷ [] else q ∷ input ∷ pathIn (nextOf t) way′ after k (nextOf t q input)) ≡
+            ((p : ℕ) → k < n → p < t .states → pathAlong (nextOf t) way′ after k p ≡ pathFrom t P A N k p) →
+            (if b then q ∷ [] else q ∷ input ∷ pathAlong (nextOf t) way′ after k (nextOf t q input)) ≡
             (if b then q ∷ [] else q ∷ input ∷ pathFrom t P A N k (nextOf t q input))
         go true e more = refl
         go false e more =
@@ -219,7 +219,7 @@ module _ {t : Table} {P A : ℕ} (all : AllExist t P A) (N n : ℕ) (after : Lis
       in-states : (q : ℕ) → member outside q ≡ true → q < t .states
       in-states q m = all .states q (both (member P q) _ (sym (rest q) ∙ m) .0)
 
-      last-row : (q : ℕ) → onPath t P A N q ≡ true → getD after ((n - 1) * t .states + q) 0 ≡ getD (sumsOf t P A N n) q 0
+      last-row : (q : ℕ) → offTarget P N q ≡ true → getD after ((n - 1) * t .states + q) 0 ≡ getD (sumsOf t P A N n) q 0
       last-row q on =
           let e : n - 1 + 1 ≡ n = omega arith in
           rw e at (place-has (n - 1) q (omega arith) (in-states q (rest q ∙ on)))
@@ -239,11 +239,11 @@ module _ {t : Table} {P A : ℕ} (all : AllExist t P A) (N n : ℕ) (after : Lis
           go true e = inl (eqb-true sum 0 e)
           go false e = inr (in-states at (worst-in found (eqb-false sum 0 e)))
 
-      pub whole-is : wholePath (nextOf t) way′ after (n - 1) sum at ≡ worstPath t P A N n
-      unfolding wholePath worstPath
+      pub whole-is : wholePathAlong (nextOf t) way′ after (n - 1) sum at ≡ worstPath t P A N n
+      unfolding wholePathAlong worstPath
       whole-is = rw (← sum-is) (go (sum =? 0) refl)
         where
-          go : (b : Bool) → (sum =? 0) ≡ b → (if b then [] else pathIn (nextOf t) way′ after (n - 1) at) ≡ (if b then [] else pathFrom t P A N (n - 1) (worstStart t P A N n))
+          go : (b : Bool) → (sum =? 0) ≡ b → (if b then [] else pathAlong (nextOf t) way′ after (n - 1) at) ≡ (if b then [] else pathFrom t P A N (n - 1) (worstStart t P A N n))
           go true e = refl
           go false e =
               let other = eqb-false sum 0 e in
@@ -254,7 +254,7 @@ module _ {t : Table} {P A : ℕ} (all : AllExist t P A) (N n : ℕ) (after : Lis
 
 nothing : (t : Table) (P A N : ℕ) → largestSum t P A N 0 ≡ 0
 unfolding largestSum sumsOf
-nothing t P A N = le-zero (largest-at-most (t .states) (onPath t P A N) _ 0 (λ q on. rw (getD-zeros (t .states) q) (omega arith)))
+nothing t P A N = le-zero (largest-at-most (t .states) (offTarget P N) _ 0 (λ q on. rw (getD-zeros (t .states) q) (omega arith)))
 
 module _ (t : Table) (P A n : ℕ) where
   pub no-moves : n ≡ 0 → (sums path : List ℕ) →

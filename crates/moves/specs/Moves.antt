@@ -10,7 +10,7 @@ use Rattle.table.specs.Table.{nextOf}
 use Rattle.table.specs.Entries.{values, zeros}
 use Rattle.table.specs.Check.{tableIn}
 use Rattle.table.specs.Under.{underTable}
-use Rattle.reaction.specs.Reaction.{nextSet, weight, firstFrom, firstLeaving, forHolds}
+use Rattle.reaction.specs.Reaction.{nextSet, offTarget, weight, firstFrom, firstLeaving, forHolds}
 use Rattle.moves.specs.declared.Judged.{Judged}
 use Rattle.moves.specs.declared.Judged.the-variants.{Passes, TableRefused, HasTimers, UnknownState, UnknownInput, TooManyMoves, LeavesStates, NoRoom}
 use Rattle.moves.specs.declared.Reaction.{Reaction}
@@ -27,11 +27,8 @@ nextTimes t P A (suc n) = nextSet t (nextTimes t P A n) A
 unfoldable pub worst : (n : ℕ) → (ℕ → Bool) → (ℕ → ℕ) → ℕ
 worst n test f = firstFrom (λ i. test i and (f i =? largest n test f)) n 0
 
+-- The states of a path are those that are in P and not in N, the target.
 module _ (t : Table) (P A N : ℕ) where
-  -- The states of a path: those in P and outside the target N.
-  abbrev pub onPath : ℕ → Bool
-  onPath q = member P q and not (member N q)
-
   -- ---- The sums
 
   -- What a row has for the next state of q by input a.
@@ -47,7 +44,7 @@ module _ (t : Table) (P A N : ℕ) where
 
   -- A row from the one before: paths that begin with one state more.
   unfoldable pub round : List ℕ → List ℕ
-  round row = values (λ q. if onPath q then weight t A q + mostAhead row q else 0) (t .states)
+  round row = values (λ q. if offTarget P N q then weight t A q + mostAhead row q else 0) (t .states)
 
   -- For each state the largest sum of a path of at most so many states that begins there.
   unfoldable pub sumsOf : ℕ → List ℕ
@@ -70,10 +67,10 @@ module _ (t : Table) (P A N : ℕ) where
 
   -- The largest sum of all, and the smallest state at which a path with it begins.
   unfoldable pub largestSum : ℕ → ℕ
-  largestSum n = largest (t .states) onPath (λ q. getD (sumsOf n) q 0)
+  largestSum n = largest (t .states) (offTarget P N) (λ q. getD (sumsOf n) q 0)
 
   unfoldable pub worstStart : ℕ → ℕ
-  worstStart n = worst (t .states) onPath (λ q. getD (sumsOf n) q 0)
+  worstStart n = worst (t .states) (offTarget P N) (λ q. getD (sumsOf n) q 0)
 
   -- Every weight is above 0: where the largest sum is 0 there is no path.
   unfoldable pub worstPath : ℕ → List ℕ

@@ -12,7 +12,7 @@ ghost use Rattle.reaction.specs.Walks.{nextInRows, Walkable, weightIn};
 ghost use Rattle.moves.specs.declared.Judged.the-variants.{Passes};
 ghost use Rattle.moves.specs.Answer.{refusalOf, replyOf};
 ghost use Rattle.moves.specs.Moves.{judgeOf, reactionOver, sumsOver, pathOver, movesOf, sumsAfter, pathAfter};
-ghost use Rattle.moves.specs.Walks.{Weighs, Times, StaysInside};
+ghost use Rattle.moves.specs.Walks.{Weighs, ComesByMoves, StaysInside};
 use reaction::Gathered;
 use reaction::next_of_states;
 use reaction::weight;
@@ -89,7 +89,7 @@ pub enum Answer {
 // What comes of the states by so many moves. It never leaves the set that it comes of.
 fn next_times(rows: &[u8; 1024], width: u32, states: u32, inputs: u32, moves: u32) -> u32
     requires { ⌜ Walkable (nextInRows (now rows) width) width states inputs × StaysInside (nextInRows (now rows) width) states inputs ⌝ }
-    ensures { λ r. ⌜ Times (nextInRows (now (rows .entry)) width) states inputs moves r ⌝ }
+    ensures { λ r. ⌜ ComesByMoves (nextInRows (now (rows .entry)) width) states inputs moves r ⌝ }
 {
     let mut set = states;
     let mut k = 0;

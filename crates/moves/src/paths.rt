@@ -7,7 +7,7 @@ ghost use Rattle.wire.specs.Choice.{_=?_, if_then_else_};
 ghost use Rattle.wire.specs.Encode.{placedIn};
 ghost use Rattle.sets.specs.Sets.{member};
 ghost use Rattle.reaction.specs.Walks.{nextInRows};
-ghost use Rattle.moves.specs.Walks.{Steps, inputIn, pathIn, wholePath, BeginsAtState};
+ghost use Rattle.moves.specs.Walks.{Steps, pathAfterInput, pathAlong, wholePathAlong, BeginsAtState};
 use crate::rounds::Most;
 use crate::rounds::Way;
 use crate::rounds::worst_step;
@@ -24,8 +24,8 @@ fn state_step<'a>(
     state: u32,
 ) -> usize
     requires { ⌜ Steps (nextInRows (now next) (way .width)) way × (state < way .states) × (left ≤ 32) × (left * way .states ≤ length (now sums)) × (at + (left + left + 1) ≤ length (now path)) ⌝ }
-    ensures is { λ r. ⌜ r ≡ at + length (pathIn (nextInRows (now (next .entry)) (way .width)) way (now (sums .entry)) left state) ⌝ }
-    ensures holds { λ _. ⌜ now (path .exit) ≡ placedIn (now (path .entry)) at (pathIn (nextInRows (now (next .entry)) (way .width)) way (now (sums .entry)) left state) ⌝ }
+    ensures is { λ r. ⌜ r ≡ at + length (pathAlong (nextInRows (now (next .entry)) (way .width)) way (now (sums .entry)) left state) ⌝ }
+    ensures holds { λ _. ⌜ now (path .exit) ≡ placedIn (now (path .entry)) at (pathAlong (nextInRows (now (next .entry)) (way .width)) way (now (sums .entry)) left state) ⌝ }
 {
     path[at] = state as u8;
     if left == 0 {
@@ -50,8 +50,8 @@ fn input_step<'a>(
     input: u32,
 ) -> usize
     requires { ⌜ Steps (nextInRows (now next) (way .width)) way × (state < way .states) × (member (way .inputs) input ≡ true) × (0 < left) × (left ≤ 32) × (left * way .states ≤ length (now sums)) × (at + (left + left) ≤ length (now path)) ⌝ }
-    ensures is { λ r. ⌜ r ≡ at + length (inputIn (nextInRows (now (next .entry)) (way .width)) way (now (sums .entry)) left state input) ⌝ }
-    ensures holds { λ _. ⌜ now (path .exit) ≡ placedIn (now (path .entry)) at (inputIn (nextInRows (now (next .entry)) (way .width)) way (now (sums .entry)) left state input) ⌝ }
+    ensures is { λ r. ⌜ r ≡ at + length (pathAfterInput (nextInRows (now (next .entry)) (way .width)) way (now (sums .entry)) left state input) ⌝ }
+    ensures holds { λ _. ⌜ now (path .exit) ≡ placedIn (now (path .entry)) at (pathAfterInput (nextInRows (now (next .entry)) (way .width)) way (now (sums .entry)) left state input) ⌝ }
 {
     path[at] = input as u8;
     let to = next_state(next, way.width, state, input);
@@ -68,8 +68,8 @@ pub fn write_path<'a>(
     path: &mut [u8],
 ) -> usize
     requires { ⌜ Steps (nextInRows (now next) (way .width)) way × BeginsAtState (first .sum) (first .member) way × (left ≤ 32) × (left * way .states ≤ length (now sums)) × (left + left + 1 ≤ length (now path)) ⌝ }
-    ensures is { λ r. ⌜ r ≡ length (wholePath (nextInRows (now (next .entry)) (way .width)) way (now (sums .entry)) left (first .sum) (first .member)) ⌝ }
-    ensures holds { λ _. ⌜ now (path .exit) ≡ placedIn (now (path .entry)) 0 (wholePath (nextInRows (now (next .entry)) (way .width)) way (now (sums .entry)) left (first .sum) (first .member)) ⌝ }
+    ensures is { λ r. ⌜ r ≡ length (wholePathAlong (nextInRows (now (next .entry)) (way .width)) way (now (sums .entry)) left (first .sum) (first .member)) ⌝ }
+    ensures holds { λ _. ⌜ now (path .exit) ≡ placedIn (now (path .entry)) 0 (wholePathAlong (nextInRows (now (next .entry)) (way .width)) way (now (sums .entry)) left (first .sum) (first .member)) ⌝ }
 {
     if first.sum == 0 {
         return 0;

@@ -7,7 +7,7 @@ ghost use Rattle.wire.specs.Choice.{_<?_, if_then_else_};
 ghost use Rattle.sets.specs.Sets.{member};
 ghost use Rattle.table.specs.Entries.{filledTo};
 ghost use Rattle.reaction.specs.Walks.{nextInRows};
-ghost use Rattle.moves.specs.Walks.{PlaceForEach, Steps, WorstMember, aheadIn, sumIn, sumFrom, heaviest, SumsFit};
+ghost use Rattle.moves.specs.Walks.{PlaceForEach, Steps, WorstMember, aheadStored, sumStored, sumFromStored, heaviest, SumsFit};
 use sets::take_smallest;
 use table::next_state;
 
@@ -43,7 +43,7 @@ pub fn worst_step<'a>(
     state: u32,
 ) -> Most
     requires { ⌜ Steps (nextInRows (now next) (way .width)) way × (state < way .states) × (from + way .states ≤ length (now sums)) ⌝ }
-    ensures { λ r. ⌜ WorstMember (way .inputs) (aheadIn (nextInRows (now (next .entry)) (way .width)) way (now (sums .entry)) from state) (r .sum) (r .member) ⌝ }
+    ensures { λ r. ⌜ WorstMember (way .inputs) (aheadStored (nextInRows (now (next .entry)) (way .width)) way (now (sums .entry)) from state) (r .sum) (r .member) ⌝ }
 {
     let mut rest = way.inputs;
     let mut most = Most { sum: 0, member: 0 };
@@ -83,7 +83,7 @@ fn sum_at<'a>(
     k: usize,
 ) -> u32
     requires { ⌜ Steps (nextInRows (now next) (way .width)) way × (k < length (now sums)) × SumsFit way (λ q. getD (now weights) q 0) (now sums) k ⌝ }
-    ensures { λ r. ⌜ r ≡ sumFrom (nextInRows (now (next .entry)) (way .width)) way (λ q. getD (now (weights .entry)) q 0) (now (sums .entry)) k ⌝ }
+    ensures { λ r. ⌜ r ≡ sumFromStored (nextInRows (now (next .entry)) (way .width)) way (λ q. getD (now (weights .entry)) q 0) (now (sums .entry)) k ⌝ }
 {
     let states = way.states as usize;
     let state = k % states;
@@ -107,7 +107,7 @@ pub fn fill_sums<'a>(
     sums: &mut [u32],
 )
     requires { ⌜ Steps (nextInRows (now next) (way .width)) way × (moves ≤ 32) × (moves * way .states ≤ length (now sums)) × ((q : ℕ) → getD (now weights) q 0 ≤ heaviest) ⌝ }
-    ensures { λ _. ⌜ now (sums .exit) ≡ filledTo (sumIn (nextInRows (now (next .entry)) (way .width)) way (λ q. getD (now (weights .entry)) q 0)) (moves * way .states) (now (sums .entry)) ⌝ }
+    ensures { λ _. ⌜ now (sums .exit) ≡ filledTo (sumStored (nextInRows (now (next .entry)) (way .width)) way (λ q. getD (now (weights .entry)) q 0)) (moves * way .states) (now (sums .entry)) ⌝ }
 {
     let total = (moves * way.states) as usize;
     let mut k = 0;

@@ -9,10 +9,10 @@ use Rattle.sets.specs.Sets.{member}
 use Rattle.table.specs.declared.Table.{Table}
 use Rattle.table.proofs.WellFormed.{well-formed}
 use Rattle.table.specs.Check.{tableIn}
-use Rattle.reaction.specs.Reaction.{nextSet, reactionTime}
+use Rattle.reaction.specs.Reaction.{nextSet, offTarget, fromHold, reactionTime}
 use Rattle.reaction.specs.Meaning.{Known}
 use Rattle.reaction.proofs.Entry.{reacted}
-use Rattle.tight.specs.Tight.{fromHold, outside, tightTime}
+use Rattle.tight.specs.Tight.{tightTime}
 use Rattle.tight.specs.Below.{Below, same, by-one, by-two, NeverAbove}
 use Rattle.tight.proofs.Time.{heavy, light, Slowest, NoneOutside, slowest}
 use Rattle.tight.proofs.Entry.{entry-gives}
@@ -21,17 +21,17 @@ module _ (t : Table) (P A : ℕ) (some-bound : 1 ≤ t .bound) (known : Known (t
   abbrev BelowTime : Type 0
   BelowTime = Below t P A (nextSet t P A) (reactionTime t P A) (tightTime t P A)
 
-  none-at-all : NoneOutside t P A → (p : ℕ) → outside P (nextSet t P A) p ≡ false
+  none-at-all : NoneOutside t P A → (p : ℕ) → offTarget P (nextSet t P A) p ≡ false
   none-at-all n p = go (member P p) refl
     where
-      go : (b : Bool) → member P p ≡ b → outside P (nextSet t P A) p ≡ false
+      go : (b : Bool) → member P p ≡ b → offTarget P (nextSet t P A) p ≡ false
       go true e = n .none p (known p e)
       go false e = rw e
 
   by-slowest : (s : Slowest t P A) → BelowTime
   by-slowest s = go (fromHold t A (s .state)) refl
     where
-      others : fromHold t A (s .state) ≡ false → (q : ℕ) → outside P (nextSet t P A) q ≡ true → (b : Bool) → fromHold t A q ≡ b → b ≡ false
+      others : fromHold t A (s .state) ≡ false → (q : ℕ) → offTarget P (nextSet t P A) q ≡ true → (b : Bool) → fromHold t A q ≡ b → b ≡ false
       others e q out true f =
           let covered = s .covers q (known q (both (member P q) _ out .0)) out in
           absurd (omega (arith, covered, light t A (s .state) e, heavy t A q f))

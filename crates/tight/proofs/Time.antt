@@ -12,8 +12,8 @@ use Rattle.sets.specs.Sets.{some, largest}
 use Rattle.sets.proofs.Members.{some-if, passing, largest-covers, largest-reached, Reaching}
 use Rattle.table.specs.declared.Table.{Table}
 use Rattle.table.specs.Table.{holdOf}
-use Rattle.reaction.specs.Reaction.{nextSet, weightOf, weight, reactionTime}
-use Rattle.tight.specs.Tight.{fromHold, needOf, outside, tightTime}
+use Rattle.reaction.specs.Reaction.{nextSet, offTarget, weightOf, fromHold, weight, reactionTime}
+use Rattle.tight.specs.Tight.{needOf, tightTime}
 use Rattle.tight.specs.Below.{tightened}
 
 -- ---- By the time
@@ -76,20 +76,20 @@ module _ (t : Table) (A : ℕ) (some-bound : 1 ≤ t .bound) where
 -- A state of P outside the target with the largest weight, and so with the largest need.
 pub record Slowest (t : Table) (P A : ℕ) : Type 0 where
   pub state : ℕ
-  pub is-outside : outside P (nextSet t P A) state ≡ true
-  pub covers : (p : ℕ) → p < t .states → outside P (nextSet t P A) p ≡ true → weight t A p ≤ weight t A state
+  pub is-outside : offTarget P (nextSet t P A) state ≡ true
+  pub covers : (p : ℕ) → p < t .states → offTarget P (nextSet t P A) p ≡ true → weight t A p ≤ weight t A state
   pub time-is : reactionTime t P A ≡ t .bound + weight t A state
   pub tight-is : tightTime t P A ≡ needOf t A state
 
 -- No state of P below Q lies outside the target, and both times are E.
 pub record NoneOutside (t : Table) (P A : ℕ) : Type 0 where
-  pub none : (p : ℕ) → p < t .states → outside P (nextSet t P A) p ≡ false
+  pub none : (p : ℕ) → p < t .states → offTarget P (nextSet t P A) p ≡ false
   pub time-is : reactionTime t P A ≡ t .bound
   pub tight-is : tightTime t P A ≡ t .bound
 
 module _ (t : Table) (P A : ℕ) (some-bound : 1 ≤ t .bound) where
   abbrev test : ℕ → Bool
-  test p = outside P (nextSet t P A) p
+  test p = offTarget P (nextSet t P A) p
 
   tight-of-some : some (t .states) test ≡ true → tightTime t P A ≡ largest (t .states) test (needOf t A)
   unfolding tightTime

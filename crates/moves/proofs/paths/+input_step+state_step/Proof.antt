@@ -8,7 +8,7 @@ use borrow.Author.Needs.{needs}
 use Rattle.moves.proofs.Worsts.{worst-in}
 use Rattle.moves.proofs.Along.{none-left, none-ahead, goes-on, path-length, put-last, put-first, one-row-less}
 use Rattle.reaction.specs.Walks.{nextInRows}
-use Rattle.moves.specs.Walks.{pathIn}
+use Rattle.moves.specs.Walks.{pathAlong}
 use borrow.Fn.Kinds.{In}
 use borrow.Fn.PlainCycle.{Measures, is, falls, and}
 use Rattle.moves.proofs.paths.input_step.Reads as input-step
@@ -128,7 +128,7 @@ input-step-returns t c =
     let to = c .before .before .before .before .next-state in
     let done = c .before .before .state-step .ensures in
     let short = path-length (nextInRows (a .next .now) (a .way .width)) (a .way) (a .sums .now) (a .left - 1) (to .result) in
-    put-first (a .path .now) (a .at) (a .input) (ap (λ q. a .input ∷ pathIn (nextInRows (a .next .now) (a .way .width)) (a .way) (a .sums .now) (a .left - 1) q) (to .ensures))
+    put-first (a .path .now) (a .at) (a .input) (ap (λ q. a .input ∷ pathAlong (nextInRows (a .next .now) (a .way .width)) (a .way) (a .sums .now) (a .left - 1) q) (to .ensures))
     (omega (arith, short, pre .3, pre .6)) (done .0) (done .1)
 
 -- src/paths.rt:30:16

@@ -7,13 +7,13 @@ use lib.ListN.{length, getD}
 use borrow.Author.Needs.{needs}
 use Rattle.table.proofs.Values.{Filling, none-filled, one-filled, all-filled}
 use Rattle.reaction.specs.Walks.{nextInRows}
-use Rattle.moves.specs.Walks.{sumIn}
+use Rattle.moves.specs.Walks.{sumStored}
 use Rattle.moves.proofs.Rows.{fit, next-sum}
 use Rattle.moves.proofs.rounds.fill_sums.Statement.{statement}
 use Rattle.moves.proofs.rounds.fill_sums.Tie as tie
 
 abbrev Inv-loop : tie.InvT-loop
-Inv-loop next weights way moves sums₀ total k₀ sums k = Filling (sumIn (nextInRows next (way .width)) way (λ q. getD weights q 0)) (moves * way .states) sums₀ sums k
+Inv-loop next weights way moves sums₀ total k₀ sums k = Filling (sumStored (nextInRows next (way .width)) way (λ q. getD weights q 0)) (moves * way .states) sums₀ sums k
 
 abbrev μ-loop : tie.MeasureT-loop
 μ-loop next weights way moves sums₀ total k₀ sums k = moves * way .states - k

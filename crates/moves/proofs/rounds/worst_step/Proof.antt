@@ -9,14 +9,14 @@ use mathlib.Core.Bool.{true}
 use Rattle.sets.specs.Sets.{member}
 use Rattle.sets.proofs.Walk.{taken-in}
 use Rattle.reaction.specs.Walks.{nextInRows}
-use Rattle.moves.specs.Walks.{aheadIn}
+use Rattle.moves.specs.Walks.{aheadStored}
 use Rattle.moves.proofs.Worsts.{OverMembers, none-yet, all-seen, one-more}
 use Rattle.moves.proofs.rounds.worst_step.Statement.{statement}
 use Rattle.moves.proofs.rounds.worst_step.Tie as tie
 
 abbrev Inv-loop : tie.InvT-loop
 Inv-loop next sums way from state rest₀ most₀ rest most =
-    OverMembers (way .inputs) (aheadIn (nextInRows next (way .width)) way sums from state) rest (most .sum) (most .member)
+    OverMembers (way .inputs) (aheadStored (nextInRows next (way .width)) way sums from state) rest (most .sum) (most .member)
 
 abbrev μ-loop : tie.MeasureT-loop
 μ-loop next sums way from state rest₀ most₀ rest most = rest
