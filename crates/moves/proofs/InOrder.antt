@@ -1,9 +1,9 @@
 -- What the judge says, way out by way out.
-use mathlib.Core.Path.{_≡_}
-use mathlib.Core.Bool.{true, false}
+use mathlib.Core.Path.{_≡_, refl}
+use mathlib.Core.Bool.{Bool, true, false}
 use Prim.Native.Nat.{ℕ, _-_, _*_, _^_, _<_, _≤_}
 use borrow.Author.Tests.{lt-ltb, le-ltb}
-use Rattle.wire.specs.Choice.{_<?_, _or_}
+use Rattle.wire.specs.Choice.{_<?_, _or_, if_then_else_}
 use Rattle.table.specs.declared.Table.{Table}
 use Rattle.reaction.specs.Reaction.{firstLeaving}
 use Rattle.moves.specs.declared.Judged.the-variants.{Passes, UnknownState, UnknownInput, TooManyMoves, LeavesStates, NoRoom}
@@ -31,10 +31,6 @@ module _ (t : Table) (P A n sums path : ℕ) where
         leaves some place e = rw (states, inputs, le-ltb 32 n few, some, e)
 
         module _ (stays : (firstLeaving t P A <? t .states * t .inputs) ≡ false) where
-          pub no-room : ((sums <? n * t .states) or (path <? 2 * n - 1)) ≡ true → NoRoom ≡ judge t P A n sums path
+          pub room-decides : (b : Bool) → ((sums <? n * t .states) or (path <? 2 * n - 1)) ≡ b → (if b then NoRoom else Passes) ≡ judge t P A n sums path
           unfolding judge
-          no-room e = rw (states, inputs, le-ltb 32 n few, stays, e)
-
-          pub passes : ((sums <? n * t .states) or (path <? 2 * n - 1)) ≡ false → Passes ≡ judge t P A n sums path
-          unfolding judge
-          passes e = rw (states, inputs, le-ltb 32 n few, stays, e)
+          room-decides b e = rw (states, inputs, le-ltb 32 n few, stays, e) refl

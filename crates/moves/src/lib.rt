@@ -14,10 +14,10 @@ ghost use Rattle.moves.specs.Answer.{refusalOf, replyOf};
 ghost use Rattle.moves.specs.Moves.{judgeOf, reactionOver, sumsOver, pathOver, movesOf, sumsAfter, pathAfter};
 ghost use Rattle.moves.specs.Walks.{Weighs, ComesByMoves, StaysInside};
 use reaction::Gathered;
+use reaction::Row;
 use reaction::next_of_states;
-use reaction::weight;
+use reaction::state_weight;
 use sets::difference;
-use sets::meet;
 use sets::take_smallest;
 
 pub mod judging;
@@ -105,13 +105,7 @@ fn next_times(rows: &[u8; 1024], width: u32, states: u32, inputs: u32, moves: u3
 }
 
 // The weights of the states on a path; 0 for every other state.
-fn path_weights<'a>(
-    holds: &'a [u32; 32],
-    delayed: &'a [u32; 32],
-    bound: u32,
-    states: u32,
-    inputs: u32,
-) -> [u32; 32]
+fn path_weights<'a>(holds: &'a Row, delayed: &'a Row, bound: u32, states: u32, inputs: u32) -> Row
     requires { ⌜ (bound ≤ largestBound) × ((p : ℕ) → member states p ≡ true → getD (now holds) p 0 ≤ longestHold) ⌝ }
     ensures { λ r. ⌜ Weighs states (weightIn (now (holds .entry)) (now (delayed .entry)) bound inputs) r ⌝ }
 {
@@ -120,8 +114,7 @@ fn path_weights<'a>(
     while rest != 0 {
         let taken = take_smallest(rest);
         let state = taken.member as usize;
-        let some_delayed = meet(inputs, delayed[state]);
-        weights[state] = weight(holds[state], bound, some_delayed);
+        weights[state] = state_weight(holds, delayed, bound, inputs, taken.member);
         rest = taken.rest;
     }
     weights

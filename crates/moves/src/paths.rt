@@ -9,13 +9,14 @@ ghost use Rattle.sets.specs.Sets.{member};
 ghost use Rattle.reaction.specs.Walks.{nextInRows};
 ghost use Rattle.moves.specs.Walks.{Steps, pathAfterInput, pathAlong, wholePathAlong, BeginsAtState};
 use crate::rounds::Most;
+use crate::rounds::Rows;
 use crate::rounds::Way;
 use crate::rounds::worst_step;
 use table::next_state;
 
 // Puts the state, and goes on where a path does; says where the path ends.
 fn state_step<'a>(
-    next: &'a [u8; 1024],
+    next: &'a Rows,
     sums: &'a [u32],
     way: Way,
     path: &mut [u8],
@@ -40,7 +41,7 @@ fn state_step<'a>(
 
 // Puts the input, and then the state to which it leads, with one move fewer left.
 fn input_step<'a>(
-    next: &'a [u8; 1024],
+    next: &'a Rows,
     sums: &'a [u32],
     way: Way,
     path: &mut [u8],
@@ -60,7 +61,7 @@ fn input_step<'a>(
 
 // From the first state, which is the worst, with so many to follow; nothing if its sum is 0.
 pub fn write_path<'a>(
-    next: &'a [u8; 1024],
+    next: &'a Rows,
     sums: &'a [u32],
     way: Way,
     left: usize,

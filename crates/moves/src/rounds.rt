@@ -8,8 +8,12 @@ ghost use Rattle.sets.specs.Sets.{member};
 ghost use Rattle.table.specs.Entries.{filledTo};
 ghost use Rattle.reaction.specs.Walks.{nextInRows};
 ghost use Rattle.moves.specs.Walks.{PlaceForEach, Steps, WorstMember, aheadStored, sumStored, sumFromStored, heaviest, SumsFit};
+use reaction::Row;
 use sets::take_smallest;
 use table::next_state;
+
+// Next states, rows by state.
+pub type Rows = [u8; 1024];
 
 // How the rows of next states are walked: I to a row, these inputs, Q states.
 pub struct Way {
@@ -35,13 +39,7 @@ fn larger(found: Most, sum: u32, member: u32) -> Most
 }
 
 // Of the next states of a state, in the row at `from`, by input.
-pub fn worst_step<'a>(
-    next: &'a [u8; 1024],
-    sums: &'a [u32],
-    way: Way,
-    from: usize,
-    state: u32,
-) -> Most
+pub fn worst_step<'a>(next: &'a Rows, sums: &'a [u32], way: Way, from: usize, state: u32) -> Most
     requires { ⌜ Steps (nextInRows (now next) (way .width)) way × (state < way .states) × (from + way .states ≤ length (now sums)) ⌝ }
     ensures { λ r. ⌜ WorstMember (way .inputs) (aheadStored (nextInRows (now (next .entry)) (way .width)) way (now (sums .entry)) from state) (r .sum) (r .member) ⌝ }
 {
@@ -75,13 +73,7 @@ pub fn worst_start(sums: &[u32], from: usize, states: u32) -> Most
 }
 
 // The number at place k, from the row before. In the first row a state has its weight.
-fn sum_at<'a>(
-    next: &'a [u8; 1024],
-    weights: &'a [u32; 32],
-    sums: &'a [u32],
-    way: Way,
-    k: usize,
-) -> u32
+fn sum_at<'a>(next: &'a Rows, weights: &'a Row, sums: &'a [u32], way: Way, k: usize) -> u32
     requires { ⌜ Steps (nextInRows (now next) (way .width)) way × (k < length (now sums)) × SumsFit way (λ q. getD (now weights) q 0) (now sums) k ⌝ }
     ensures { λ r. ⌜ r ≡ sumFromStored (nextInRows (now (next .entry)) (way .width)) way (λ q. getD (now (weights .entry)) q 0) (now (sums .entry)) k ⌝ }
 {
@@ -99,13 +91,7 @@ fn sum_at<'a>(
 }
 
 // All rows, one number after another.
-pub fn fill_sums<'a>(
-    next: &'a [u8; 1024],
-    weights: &'a [u32; 32],
-    way: Way,
-    moves: u32,
-    sums: &mut [u32],
-)
+pub fn fill_sums<'a>(next: &'a Rows, weights: &'a Row, way: Way, moves: u32, sums: &mut [u32])
     requires { ⌜ Steps (nextInRows (now next) (way .width)) way × (moves ≤ 32) × (moves * way .states ≤ length (now sums)) × ((q : ℕ) → getD (now weights) q 0 ≤ heaviest) ⌝ }
     ensures { λ _. ⌜ now (sums .exit) ≡ filledTo (sumStored (nextInRows (now (next .entry)) (way .width)) way (λ q. getD (now (weights .entry)) q 0)) (moves * way .states) (now (sums .entry)) ⌝ }
 {

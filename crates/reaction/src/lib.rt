@@ -1,7 +1,7 @@
 // The reaction calculator: a table, a set of states and a set of inputs go in; the reaction time and the target set come out.
 ghost use mathlib.Core.Path.{_≡_};
 ghost use mathlib.Core.Bool.{true};
-ghost use Prim.Native.Nat.{ℕ, _≤_};
+ghost use Prim.Native.Nat.{ℕ, _<_, _≤_};
 ghost use lib.ListN.{getD};
 ghost use Rattle.wire.specs.Reply.{numberIn, placeIn};
 ghost use Rattle.sets.specs.Sets.{member};
@@ -22,6 +22,9 @@ use sets::within;
 use table::next_state;
 use table::place_in_rows;
 use wire::larger;
+
+// A number for each state.
+pub type Row = [u32; 32];
 
 // The time and the target, or what is turned down.
 pub enum Answer {
@@ -121,7 +124,7 @@ pub fn next_of_states(rows: &[u8; 1024], width: u32, states: u32, inputs: u32) -
 }
 
 // Whether some input is delayed in the state is known already.
-pub fn weight(hold: u32, bound: u32, delayed: bool) -> u32
+fn weight(hold: u32, bound: u32, delayed: bool) -> u32
     requires { ⌜ (hold ≤ longestHold) × (bound ≤ largestBound) ⌝ }
     ensures { λ r. ⌜ r ≡ weightOf hold bound delayed ⌝ }
 {
@@ -132,14 +135,17 @@ pub fn weight(hold: u32, bound: u32, delayed: bool) -> u32
     }
 }
 
+// The weight of a state, from the holds and the delayed sets.
+pub fn state_weight<'a>(holds: &'a Row, delayed: &'a Row, bound: u32, inputs: u32, at: u32) -> u32
+    requires { ⌜ (at < 32) × (bound ≤ largestBound) × (getD (now holds) at 0 ≤ longestHold) ⌝ }
+    ensures { λ r. ⌜ r ≡ weightIn (now (holds .entry)) (now (delayed .entry)) bound inputs at ⌝ }
+{
+    let state = at as usize;
+    weight(holds[state], bound, meet(inputs, delayed[state]))
+}
+
 // The largest weight of these states; 0 where there is none.
-fn largest_weight<'a>(
-    holds: &'a [u32; 32],
-    delayed: &'a [u32; 32],
-    bound: u32,
-    states: u32,
-    inputs: u32,
-) -> u32
+fn largest_weight<'a>(holds: &'a Row, delayed: &'a Row, bound: u32, states: u32, inputs: u32) -> u32
     requires { ⌜ (bound ≤ largestBound) × ((p : ℕ) → member states p ≡ true → getD (now holds) p 0 ≤ longestHold) ⌝ }
     ensures { λ r. ⌜ IsLargest states (weightIn (now (holds .entry)) (now (delayed .entry)) bound inputs) r ⌝ }
 {
@@ -147,9 +153,10 @@ fn largest_weight<'a>(
     let mut largest = 0;
     while rest != 0 {
         let taken = take_smallest(rest);
-        let state = taken.member as usize;
-        let some_delayed = meet(inputs, delayed[state]);
-        largest = larger(largest, weight(holds[state], bound, some_delayed));
+        largest = larger(
+            largest,
+            state_weight(holds, delayed, bound, inputs, taken.member),
+        );
         rest = taken.rest;
     }
     largest

@@ -13,48 +13,22 @@ Inv-loop holds delayed bound states inputs rest₀ largest₀ rest largest = Ove
 abbrev μ-loop : tie.MeasureT-loop
 μ-loop holds delayed bound states inputs rest₀ largest₀ rest largest = rest
 
-loop-holds : tie.Need-loop-holds Inv-loop μ-loop
-loop-holds c = none-yet
-
-take-smallest-requires : tie.Need-take-smallest-requires Inv-loop μ-loop
-take-smallest-requires c κs = omega arith
-
-cast-state : tie.Need-cast-state Inv-loop μ-loop
-cast-state c = omega (arith, c .before .take-smallest .ensures .below)
-
-mul-meet : tie.Need-mul-meet Inv-loop μ-loop
-mul-meet c = omega (arith, c .before .take-smallest .ensures .below)
-
-element-copy-out-meet : tie.Need-element-copy-out-meet Inv-loop μ-loop
-element-copy-out-meet c = c .before .take-smallest .ensures .below
-
-mul-weight : tie.Need-mul-weight Inv-loop μ-loop
-mul-weight c = omega (arith, c .before .before .before .take-smallest .ensures .below)
-
-element-copy-out-weight : tie.Need-element-copy-out-weight Inv-loop μ-loop
-element-copy-out-weight c = c .before .before .before .take-smallest .ensures .below
-
-weight-requires : tie.Need-weight-requires Inv-loop μ-loop
-weight-requires c κs =
-    let taken = c .before .before .before .before in
-    let pre = taken .before .before .before .pre in
-    (pre .1 _ (taken-in (taken .before .before .loop .inv .walk) (taken .take-smallest .ensures)), pre .0)
+state-weight-requires : tie.Need-state-weight-requires Inv-loop μ-loop
+state-weight-requires c κs =
+    let pre = c .before .before .before .pre in
+    (c .take-smallest .ensures .below, pre .0, pre .1 _ (taken-in (c .before .before .loop .inv .walk) (c .take-smallest .ensures)))
 
 loop-less : tie.Need-loop-less Inv-loop μ-loop
-loop-less c = c .before .before .before .before .before .before .take-smallest .ensures .less
+loop-less c = c .before .before .take-smallest .ensures .less
 
 loop-again : tie.Need-loop-again Inv-loop μ-loop
 loop-again c =
-    let taken = c .before .before .before .before .before .before in
-    let larger-is = rw (c .before .weight .ensures, c .before .before .before .meet .ensures) at (c .larger .ensures) in
-    one-more (taken .before .before .loop .inv) (taken .take-smallest .ensures) larger-is
+    let taken = c .before .before in
+    one-more (taken .before .before .loop .inv) (taken .take-smallest .ensures) (rw (c .before .state-weight .ensures) at (c .larger .ensures))
 
 returns : tie.Need-returns Inv-loop μ-loop
 returns c = all-covered (c .before .loop .inv) (search needs)
 
 pub largest-weight-spec : {M : Type 1} → statement M
-largest-weight-spec =
-    tie.close
-    (tie.spec Inv-loop μ-loop loop-holds take-smallest-requires cast-state mul-meet element-copy-out-meet
-    (λ c κs. search needs) mul-weight element-copy-out-weight weight-requires (λ c κs. search needs) loop-less
-    loop-again returns)
+largest-weight-spec = tie.close
+    (tie.spec Inv-loop μ-loop (λ c. none-yet) (λ c κs. omega arith) state-weight-requires (λ c κs. search needs) loop-less loop-again returns)

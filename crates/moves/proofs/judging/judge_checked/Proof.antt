@@ -3,8 +3,8 @@ use mathlib.Core.Path.{_≡_, sym, _∙_}
 use borrow.Author.Tests.{not-true, not-false}
 use borrow.Author.Needs.{needs}
 use Prim.Native.Nat.{_^_}
-use mathlib.Core.Bool.{true}
-use Rattle.wire.specs.Choice.{_<?_}
+use mathlib.Core.Bool.{Bool, true, false}
+use Rattle.wire.specs.Choice.{_<?_, if_then_else_}
 use Rattle.table.specs.Table.{WellFormed}
 use Rattle.table.specs.Check.{tableIn}
 use Rattle.table.proofs.WellFormed.{well-formed}
@@ -13,9 +13,9 @@ use Rattle.reaction.proofs.Entry.{has-holds, has-timers}
 use Rattle.reaction.proofs.Meaning.{AllExist, known, leaving-first}
 use Rattle.reaction.proofs.Findings.{can-walk, below, leaving, none-leaves}
 use Rattle.moves.specs.declared.Judged.{Judged}
-use Rattle.moves.specs.declared.Judged.the-variants.{HasTimers}
+use Rattle.moves.specs.declared.Judged.the-variants.{HasTimers, NoRoom, Passes}
 use Rattle.moves.specs.Moves.{judge}
-use Rattle.moves.proofs.InOrder.{no-state, no-input, too-many, leaves, no-room, passes}
+use Rattle.moves.proofs.InOrder.{no-state, no-input, too-many, leaves, room-decides}
 use Rattle.moves.proofs.judging.judge_checked.Statement.{statement}
 use Rattle.moves.proofs.judging.judge_checked.Tie as tie
 
@@ -91,27 +91,26 @@ lacks-room-requires c κs =
     let four = c .before .before .before .before .before in
     (four .if4 .left, good (four .before .before .before .before .before .before) .states .1)
 
-returns-6 : tie.Need-returns-6
-returns-6 c =
-    let told = c .before .before in
+-- Nothing leaves: whether there is room decides.
+by-room : (c : tie.After-lacks-room) (b : Bool) → c .lacks-room .result ≡ b →
+    let start = c .before .before .before .before .before .before .before .before .before .before .before .before .before .before .args in
+    (if b then NoRoom else Passes) ≡
+    forHolds HasTimers (λ t. judge t (start .states) (start .inputs) (start .moves) (start .sums) (start .path)) (tableIn (start .table .now))
+by-room c b is =
+    let told = c .before in
     let found = told .before .before in
     let four = found .before .before .before in
     let three = four .before in
     let two = three .before .before in
     let none = none-leaves (all three) (found .next-of-states .result) (told .before .match .keys1) (found .next-of-states .ensures) in
     with-holds (two .before .before) _
-    (no-room _ _ _ _ _ _ (states-in two) (inputs-in three) (four .if4 .left) none (sym (c .before .lacks-room .ensures) ∙ c .if5 .taken))
+    (room-decides _ _ _ _ _ _ (states-in two) (inputs-in three) (four .if4 .left) none b (sym (c .lacks-room .ensures) ∙ is))
+
+returns-6 : tie.Need-returns-6
+returns-6 c = by-room (c .before) true (c .if5 .taken)
 
 returns-7 : tie.Need-returns-7
-returns-7 c =
-    let told = c .before .before in
-    let found = told .before .before in
-    let four = found .before .before .before in
-    let three = four .before in
-    let two = three .before .before in
-    let none = none-leaves (all three) (found .next-of-states .result) (told .before .match .keys1) (found .next-of-states .ensures) in
-    with-holds (two .before .before) _
-    (passes _ _ _ _ _ _ (states-in two) (inputs-in three) (four .if4 .left) none (sym (c .before .lacks-room .ensures) ∙ c .if5 .left))
+returns-7 c = by-room (c .before) false (c .if5 .left)
 
 pub judge-checked-spec : {M : Type 1} → statement M
 judge-checked-spec =
