@@ -8,7 +8,7 @@ use Rattle.wire.specs.Made.{Made, refused, made}
 use Rattle.table.specs.declared.Counts.{Counts}
 use Rattle.table.specs.declared.Table.{Table}
 use Rattle.table.specs.Answer.{passes?}
-use Rattle.table.specs.Table.{holdOf, delayedOf}
+use Rattle.table.specs.Table.{holdOf, delayedOf, timedWith}
 use Rattle.table.specs.Entries.{values, total, filledTo, zeros}
 use Rattle.table.specs.Check.{wordEntry, holdField, delayedField, countsIn, oldAnswer}
 use Rattle.table.specs.Encode.{words}
@@ -28,20 +28,7 @@ change hold set = if (hold =? 0) && not (set =? 0) then 1 else 0
 -- ---- The table as one value
 
 abbrev pub withSets : Table → List ℕ → Table
-withSets t sets = record {
-  states = t .states;
-  inputs = t .inputs;
-  outputs = t .outputs;
-  initial = t .initial;
-  bound = t .bound;
-  output = t .output;
-  next = t .next;
-  hold = t .hold;
-  delayed = sets;
-  timers = t .timers;
-  timing = t .timing;
-  sets = t .sets;
-}
+withSets t sets = timedWith t (t .hold) sets (t .timers) (t .timing) (t .sets)
 
 unfoldable pub emptied : Table → Table
 emptied t = withSets t (filledTo (λ q. newSet (holdOf t q) (delayedOf t q)) (t .states) (zeros 32))

@@ -5,7 +5,7 @@ use Prim.Native.Nat.{ℕ, zero, suc, _+_, _*_, _/_, _%_, _^_, _<_, _≤_}
 use lib.ListN.{length, getD}
 use Rattle.wire.specs.Choice.{_<?_, _=?_, if_then_else_}
 use Rattle.table.specs.declared.Table.{Table}
-use Rattle.table.specs.Table.{mostTimers, holdOf, delayedOf, inRegion, WellFormed}
+use Rattle.table.specs.Table.{mostTimers, holdOf, delayedOf, timedWith, inRegion, WellFormed}
 use Rattle.table.specs.Entries.{filledTo, zeros}
 use Rattle.records.specs.declared.Record.{Record}
 use Rattle.records.specs.declared.Refusal.{Refusal}
@@ -46,20 +46,7 @@ inRows n row place = row (place / n) (place % n)
 unfoldable pub asTimers : Table → Table
 asTimers t =
     let n = length (holding t) in
-    record {
-      states = t .states;
-      inputs = t .inputs;
-      outputs = t .outputs;
-      initial = t .initial;
-      bound = t .bound;
-      output = t .output;
-      next = t .next;
-      hold = zeros 32;
-      delayed = zeros 32;
-      timers = n;
-      timing = filledTo (inRows 2 (timerRow t)) (2 * n) (zeros 8);
-      sets = filledTo (inRows n (setRow t)) (t .states * n) (zeros 128);
-    }
+    timedWith t (zeros 32) (zeros 32) n (filledTo (inRows 2 (timerRow t)) (2 * n) (zeros 8)) (filledTo (inRows n (setRow t)) (t .states * n) (zeros 128))
 
 -- ---- The same run
 

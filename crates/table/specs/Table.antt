@@ -52,6 +52,23 @@ inRegion t k q = member (regionOf t k) q
 abbrev pub timerDelays : Table → ℕ → ℕ → ℕ → Bool
 timerDelays t k q i = member (timerSetOf t k q) i
 
+-- The table with other holds, or with other timers.
+abbrev pub timedWith : Table → (hold delayed : List ℕ) → (timers : ℕ) → (timing sets : List ℕ) → Table
+timedWith t hold delayed timers timing sets = record {
+  states = t .states;
+  inputs = t .inputs;
+  outputs = t .outputs;
+  initial = t .initial;
+  bound = t .bound;
+  output = t .output;
+  next = t .next;
+  hold = hold;
+  delayed = delayed;
+  timers = timers;
+  timing = timing;
+  sets = sets;
+}
+
 -- How many states have a hold of their own: all, or, with timers, none.
 abbrev pub holders : Table → ℕ
 holders t = if t .timers =? 0 then t .states else 0
