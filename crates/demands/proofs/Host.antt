@@ -7,7 +7,7 @@ use native.Mathlib.Omega.{arith}
 use borrow.Author.Tests.{le-ltb}
 use lib.ListN.{length, drop}
 use Rattle.wire.specs.Choice.{_<?_, if_then_else_}
-use Rattle.wire.specs.Encode.{Bytes, field}
+use Rattle.wire.specs.Encode.{Bytes}
 use Rattle.wire.specs.Made.{answerIn, bufferIn}
 use Rattle.wire.specs.Reply.{gives, refuses}
 use Rattle.table.specs.declared.Table.{Table}
@@ -19,7 +19,7 @@ use Rattle.table.specs.Under.{underTable}
 use Rattle.table.proofs.Answers.{decided}
 use Rattle.records.specs.declared.Record.the-variants.{End}
 use Rattle.records.specs.Form.{longestStimulus, journal, stimulus}
-use Rattle.records.specs.Encode.{bytesFrom}
+use Rattle.records.specs.Encode.{writtenIn}
 use Rattle.records.proofs.Places.{refusal-numbered}
 use Rattle.machine.specs.Machine.{start}
 use Rattle.machine.specs.Walk.{RunOverBytes, ran, tooLong, refused, runOver}
@@ -81,7 +81,7 @@ module _ (room answer : ℕ) where
   under-written (ran input taken last) e = go (room <? length bytes) e
     where
       bytes : List ℕ
-      bytes = field 0x10 (input ∷ []) ++ bytesFrom journal 0 taken
+      bytes = writtenIn journal input taken
 
       go : (b : Bool) → codeFor (if b then runtime.BufferTooShort else runtime.Written (length bytes)) ≡ 0 →
           (size : ℕ) × ((if b then runtime.BufferTooShort else runtime.Written (length bytes)) ≡ runtime.Written size)

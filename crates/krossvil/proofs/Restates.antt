@@ -19,6 +19,7 @@ use Rattle.table.specs.Check.{tableAnswer, tableIn}
 use Rattle.table.proofs.Under.{under-either}
 use Rattle.records.specs.declared.Refusal.{Refusal}
 use Rattle.records.specs.Form.{Form, journal, short, longestJournal}
+use Rattle.records.specs.Encode.{writtenIn}
 use Rattle.records.proofs.Written.{journal-recovers}
 use Rattle.machine.specs.Walk as walk
 use Rattle.machine.specs.Walk.{RunOverBytes, ran, tooLong, runOver}
@@ -32,7 +33,7 @@ use Rattle.journal.proofs.Ahead.{not-too-long}
 use Rattle.restate.specs.declared.Answer.{Answer}
 use Rattle.restate.specs.declared.Answer.the-variants.{Written, TableRefused, TooLong, Refused, OldFormTooLong, BufferTooShort}
 use Rattle.restate.specs.Answer.{replyOf}
-use Rattle.restate.specs.Restate.{writtenIn, restated, withinLimit, shortenOf, lengthenOf}
+use Rattle.restate.specs.Restate.{restated, withinLimit, shortenOf, lengthenOf}
 use Rattle.restate.proofs.Answer as AnswerT
 use Rattle.restate.proofs.Restating.{lengths}
 use Rattle.restate.proofs.Entries.{entryOf, under, table-refused, too-long, turned-down}

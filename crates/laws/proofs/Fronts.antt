@@ -1,7 +1,7 @@
 -- The front of a journal: up to a byte there stand the opening field and records that the machine took. Closed there with an end field it is
 -- a journal that the machine runs.
-use mathlib.Core.Path.{_≡_, refl, ap, _∙_}
-use mathlib.Core.List.{List, [], _∷_, _++_, append-assoc}
+use mathlib.Core.Path.{_≡_, refl, sym, ap, _∙_}
+use mathlib.Core.List.{List, [], _∷_, _++_}
 use mathlib.Core.Bool.{Bool, false}
 use Prim.Native.Nat.{ℕ, _+_, _<_, _≤_}
 use native.Mathlib.Omega.{arith}
@@ -14,10 +14,10 @@ use Rattle.records.specs.declared.Record.{Record}
 use Rattle.records.specs.declared.Record.the-variants.{End}
 use Rattle.records.specs.Record.{timeOf, isEnd, latest}
 use Rattle.records.specs.Form.{journal, longestJournal}
-use Rattle.records.specs.Encode.{bytesOf, bytesFrom, encode, WritableRecord, Inner}
+use Rattle.records.specs.Encode.{bytesOf, bytesFrom, writtenIn, encode, WritableRecord, Inner}
 use Rattle.records.proofs.Reading.{OpeningAt}
 use Rattle.records.proofs.Shapes.{eight}
-use Rattle.records.proofs.Written.{journal-recovers, opening-read, record-read, bytes-more}
+use Rattle.records.proofs.Written.{journal-recovers, opening-read, record-read, written-more}
 use Rattle.records.proofs.Lengths.{bytes-length}
 use Rattle.records.proofs.Says.{keeps-all}
 use Rattle.machine.specs.declared.Machine.{Machine}
@@ -61,7 +61,7 @@ module _ (t : Table) (s : List ℕ) (input : ℕ) where
     pub records : List Record
     pub runs : Runs t (start (t .initial) input) records m
     pub plain : Plain (inTable journal t) records
-    pub bytes-are : take at s ≡ field 0x10 (input ∷ []) ++ bytesFrom journal 0 records
+    pub bytes-are : take at s ≡ writtenIn journal input records
 
   module _ (bytes : Bytes s) where
     pub front-begins : OpeningAt 0x10 (t .inputs) s input → Front 4 (start (t .initial) input)
@@ -83,10 +83,7 @@ module _ (t : Table) (s : List ℕ) (input : ℕ) where
           records = front .records ++ r ∷ [];
           runs = runs-more t (start (t .initial) input) m (after t m r) (front .records) r (front .runs) (one .steps);
           plain = plain-more (inTable journal t) (front .records) r (front .plain) (one .not-end) (any-before (inTable journal t) (one .before) r (back .fine));
-          bytes-are =
-              take-add at 8 s
-              ∙ rw (front .bytes-are, next, bytes-more 0 (front .records) r)
-              (append-assoc (field 0x10 (input ∷ [])) (bytesFrom journal 0 (front .records)) (bytesOf journal 0 r));
+          bytes-are = take-add at 8 s ∙ rw (front .bytes-are, next) (sym (written-more input (front .records) r));
         }
 
   abbrev closedAt : ℕ → ℕ → List ℕ
@@ -99,9 +96,7 @@ module _ (t : Table) (s : List ℕ) (input : ℕ) where
 
     closed-is : closedAt at time ≡ encode journal input (front .records) time
     unfolding encode bytesOf
-    closed-is =
-        rw (front .bytes-are, bytes-more 0 (front .records) (End time))
-        (append-assoc (field 0x10 (input ∷ [])) (bytesFrom journal 0 (front .records)) (bytesOf journal 0 (End time)))
+    closed-is = rw (front .bytes-are) (sym (written-more input (front .records) (End time)))
 
     pub front-closed : input < t .inputs → at + 7 ≤ longestJournal → time ≤ latest → step t m (End time) ≡ Next (after t m (End time)) →
         RunsOver journal t (closedAt at time) input (front .records ++ End time ∷ []) (after t m (End time))

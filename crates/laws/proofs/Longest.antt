@@ -21,7 +21,7 @@ use Rattle.records.specs.declared.Record.the-variants.{Change, Poll, Test, Tick
 use Rattle.records.specs.Record.{timeOf, isEnd, latest}
 use Rattle.records.specs.Form as form
 use Rattle.records.specs.Form.{stimulus}
-use Rattle.records.specs.Encode.{bytesOf, bytesFrom, encode, kept, WritableRecord, Inner}
+use Rattle.records.specs.Encode.{bytesOf, bytesFrom, writtenIn, encode, kept, WritableRecord, Inner}
 use Rattle.machine.specs.declared.Machine.{Machine}
 use Rattle.machine.specs.Machine.{start, allowed, verdict, after}
 use Rattle.machine.specs.Run.{Runs}
@@ -197,7 +197,7 @@ made table passes n few =
       says = r .2;
       runs = r .3;
     } in
-    let j = field 0x10 (0 ∷ []) ++ bytesFrom form.journal 0 (r .0) in
+    let j = writtenIn form.journal 0 (r .0) in
     let through = runs-over stimulus t s 0 (r .0) (r .1) over in
     let is : runOf table s ≡ journalMade j = under-passes (λ a. refused (TableRefused a)) (λ x. madeUnder x s) table passes ∙ ap madeOfRun through in
     let bytes = small-bytes (byte 0x20 (omega arith) (byte 0 (omega arith) (byte 1 (omega arith) (byte 0 (omega arith) (small n early 0 0 n (omega arith)))))) in

@@ -8,7 +8,7 @@ use borrow.Author.Tests.{le-ltb, ltb-false, leb-true}
 use lib.ListN.{length, take, drop}
 use lib.Seq.{take-append-seam}
 use Rattle.wire.specs.Choice.{_<?_, _≤?_, _and_, if_then_else_}
-use Rattle.wire.specs.Encode.{Bytes, field}
+use Rattle.wire.specs.Encode.{Bytes}
 use Rattle.wire.specs.Made as Made
 use Rattle.wire.specs.Made.{refused, bufferIn}
 use Rattle.wire.proofs.Apart.{apart}
@@ -24,7 +24,7 @@ use Rattle.records.specs.declared.Record.the-variants.{Change, Poll, Test, Tick
 use Rattle.records.specs.Record.{timeOf, isEnd, latest}
 use Rattle.records.specs.Form as form
 use Rattle.records.specs.Form.{longestStimulus}
-use Rattle.records.specs.Encode.{bytesFrom, encode, kept, WritableRecord, Inner}
+use Rattle.records.specs.Encode.{writtenIn, encode, kept, WritableRecord, Inner}
 use Rattle.records.proofs.Written.{stimulus-recovers}
 use Rattle.records.proofs.Says.{in-time, all-kept, keeps-all}
 use Rattle.machine.specs.declared.Machine.{Machine}
@@ -147,7 +147,7 @@ pub record Wrote (t : Table) (s j : List ℕ) : Type 0 where
   pub taken : List Record
   pub last : Machine
   pub through : runOver form.stimulus t s ≡ ran input taken last
-  pub is : j ≡ field 0x10 (input ∷ []) ++ bytesFrom form.journal 0 taken
+  pub is : j ≡ writtenIn form.journal input taken
 
 pub wrote : (t : Table) (s j : List ℕ) → madeUnder t s ≡ journalMade j → Wrote t s j
 unfolding madeOfRun
@@ -298,7 +298,7 @@ module _ (t : Table) (good : WellFormed t) (s : List ℕ) (bytes : Bytes s) wher
     where
       go : (r : RunOverBytes) → runOver form.stimulus t s ≡ r → answerOf (madeOfRun r) room ≡ Written size → laws.Writable t s room size
       go (ran input taken last) is f =
-          let j = field 0x10 (input ∷ []) ++ bytesFrom form.journal 0 taken in
+          let j = writtenIn form.journal input taken in
           let p = fitting j room size f in
           record {
             journal = j;

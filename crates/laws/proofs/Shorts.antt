@@ -18,7 +18,7 @@ use Rattle.records.specs.declared.Record.{Record}
 use Rattle.records.specs.declared.Record.the-variants.{End}
 use Rattle.records.specs.Record.{timeOf}
 use Rattle.records.specs.Form.{Form, journal, short, clock, longestJournal}
-use Rattle.records.specs.Encode.{encode, Recovers}
+use Rattle.records.specs.Encode.{writtenIn, encode, Recovers}
 use Rattle.records.proofs.Says.{in-time, ranges-same, keeps-all}
 use Rattle.records.proofs.Written.{journal-recovers, short-recovers, gap-tells}
 use Rattle.machine.specs.declared.Machine.{Machine}
@@ -33,7 +33,7 @@ use Rattle.restate.specs.declared.Answer.the-variants.{Written, OldFormTooLong}
 use Rattle.journal.specs.Accepted.{AcceptedIn}
 use Rattle.journal.proofs.Accepted.{check-accepts, accepted}
 use Rattle.journal.proofs.Ahead.{not-too-long}
-use Rattle.restate.specs.Restate.{writtenIn, restated, withinLimit, shortenOf, lengthenOf}
+use Rattle.restate.specs.Restate.{restated, withinLimit, shortenOf, lengthenOf}
 use Rattle.restate.proofs.Entries.{entryOf, under, made-accepted}
 use Rattle.restate.proofs.Restating.{past-limit, within-limit, restated-is, given-is, lengths}
 use Rattle.laws.specs.Shorts.{GapsFit, SameRun, ShortenedSame, LengthenedSame, oldLength, JournalsComeBack, ShortsComeBack, OthersTooLong, ShortensWell}

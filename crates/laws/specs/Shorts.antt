@@ -11,6 +11,7 @@ use Rattle.table.specs.Check.{tableIn}
 use Rattle.records.specs.declared.Record.{Record}
 use Rattle.records.specs.declared.Record.the-variants.{End}
 use Rattle.records.specs.Form.{Form, short, longestJournal}
+use Rattle.records.specs.Encode.{writtenIn}
 use Rattle.machine.specs.declared.Machine.{Machine}
 use Rattle.machine.specs.Walk.{ran, runOver}
 use Rattle.machine.specs.Gaps.{Spaced}
@@ -19,7 +20,7 @@ use Rattle.journal.specs.declared.Answer.the-variants.{Accepted}
 use Rattle.journal.specs.Check.{checkIn, checkOf}
 use Rattle.restate.specs.declared.Answer.{Answer}
 use Rattle.restate.specs.declared.Answer.the-variants.{Written, OldFormTooLong}
-use Rattle.restate.specs.Restate.{writtenIn, shortenOf, lengthenOf}
+use Rattle.restate.specs.Restate.{shortenOf, lengthenOf}
 use Rattle.laws.specs.Journals.{JournalOf}
 
 -- ---- One run in two forms
