@@ -30,7 +30,7 @@ use Rattle.moves.specs.declared.Answer.the-variants as moved
 use Rattle.moves.specs.Moves.{judgeOf, reactionOver, movesOf}
 use Rattle.convert.specs.declared.Answer.the-variants as convert′
 use Rattle.convert.specs.Convert.{madeOf}
-use Rattle.stamped.specs.declared.Answer.the-variants as stamped′
+use Rattle.writing.specs.declared.Answer.the-variants as stamped′
 use Rattle.stamped.specs.Stamped.{readOf}
 use Rattle.restate.specs.declared.Answer.the-variants as restate′
 use Rattle.restate.specs.Answer as restate

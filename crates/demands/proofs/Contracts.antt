@@ -14,8 +14,8 @@ use Rattle.moves.proofs.Kept.{refusal-keeps}
 use Rattle.convert.specs.declared.Answer.the-variants as done
 use Rattle.convert.specs.Answer as convert-answer
 use Rattle.convert.specs.Convert.{madeOf}
-use Rattle.stamped.specs.declared.Answer.the-variants as stamped
-use Rattle.stamped.specs.Answer as stamped-answer
+use Rattle.writing.specs.declared.Answer.the-variants as stamped
+use Rattle.writing.specs.Answer as stamped-answer
 use Rattle.stamped.specs.Stamped.{readOf}
 use Rattle.restate.specs.declared.Answer.the-variants as restated
 use Rattle.restate.specs.Answer as restate-answer

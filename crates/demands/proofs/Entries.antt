@@ -17,9 +17,9 @@ use Rattle.moves.specs.Answer as moves-answer
 use Rattle.convert.specs.declared.Answer as convert′
 use Rattle.convert.specs.declared.Answer.the-variants as done
 use Rattle.convert.specs.Answer as convert-answer
-use Rattle.stamped.specs.declared.Answer as stamped′
-use Rattle.stamped.specs.declared.Answer.the-variants as stamped
-use Rattle.stamped.specs.Answer as stamped-answer
+use Rattle.writing.specs.declared.Answer as stamped′
+use Rattle.writing.specs.declared.Answer.the-variants as stamped
+use Rattle.writing.specs.Answer as stamped-answer
 use Rattle.restate.specs.declared.Answer as restate′
 use Rattle.restate.specs.declared.Answer.the-variants as restated
 use Rattle.restate.specs.Answer as restate-answer

@@ -8,7 +8,7 @@ use Rattle.runtime.specs.declared.Answer.the-variants.{Refused}
 use Rattle.runtime.specs.Answer.{replyOf}
 use Rattle.moves.specs.Answer as moves-answer
 use Rattle.convert.specs.Answer as convert-answer
-use Rattle.stamped.specs.Answer as stamped-answer
+use Rattle.writing.specs.Answer as stamped-answer
 use Rattle.restate.specs.Answer as restate-answer
 use Rattle.salvage.specs.Answer as salvage-answer
 use Rattle.demands.specs.Entries.{Contract, tableCheck, journalCheck, runtimeRun, reactionReact, movesReact, converter, stampedReader, shortCheck, shortener, lengthener, tightReact, salvager, reportBegin, reportAdd}

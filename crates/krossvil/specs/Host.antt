@@ -19,8 +19,8 @@ use Rattle.salvage.specs.Salvage.{salvageOf}
 use Rattle.convert.specs.declared.Answer.the-variants.{BufferTooShort}
 use Rattle.convert.specs.Answer as convert
 use Rattle.convert.specs.Convert as convert′
-use Rattle.stamped.specs.declared.Answer.the-variants as stamped′
-use Rattle.stamped.specs.Answer as stamped
+use Rattle.writing.specs.declared.Answer.the-variants as stamped′
+use Rattle.writing.specs.Answer as stamped
 use Rattle.stamped.specs.Stamped.{readOf}
 use Rattle.restate.specs.declared.Answer.the-variants as restate′
 use Rattle.restate.specs.Answer as restate

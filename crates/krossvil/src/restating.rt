@@ -1,7 +1,7 @@
 // A journal in another form: read from stamps, shortened, lengthened.
 ghost use mathlib.Core.Path.{_≡_};
 ghost use lib.ListN.{length};
-ghost use Rattle.stamped.specs.Answer as stamped-answer;
+ghost use Rattle.writing.specs.Answer as stamped-answer;
 ghost use Rattle.restate.specs.Answer as restate-answer;
 ghost use Rattle.krossvil.specs.Host.{told, codeOf, answerAfter, stampedTold, stampedJournal};
 ghost use Rattle.krossvil.specs.Host.{shortenTold, shortenedJournal, lengthenTold, lengthenedJournal};
@@ -18,12 +18,12 @@ const STAMPED_ANSWER: usize = 4;
 const RESTATED_ANSWER: usize = 4;
 
 // The reader's answer, and the long form's length if there is one.
-fn tell_stamped(read: stamped::Answer, answer: &mut [u8]) -> u64
+fn tell_stamped(read: writing::Answer, answer: &mut [u8]) -> u64
     requires { ⌜ LengthFits (stamped-answer.replyOf read) ⌝ }
     ensures code { λ r. ⌜ r ≡ codeOf (told (stamped-answer.replyOf read) (length (now (answer .entry)))) ⌝ }
     ensures bytes { λ _. ⌜ now (answer .exit) ≡ answerAfter (told (stamped-answer.replyOf read) (length (now (answer .entry)))) (now (answer .entry)) ⌝ }
 {
-    let stamped::Answer::Written(size) = read else {
+    let writing::Answer::Written(size) = read else {
         return code(read.number(), read.place());
     };
     let bytes = size as u32;

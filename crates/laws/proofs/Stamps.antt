@@ -27,7 +27,7 @@ use Rattle.machine.proofs.Gaps.{TellsGaps, gaps-within-bound, inner-restated}
 use Rattle.journal.specs.declared.Numbers.{Numbers}
 use Rattle.journal.specs.declared.Answer.the-variants.{Accepted}
 use Rattle.journal.proofs.Accepted.{passed}
-use Rattle.stamped.specs.declared.Answer.the-variants.{Written, BufferTooShort}
+use Rattle.writing.specs.declared.Answer.the-variants.{Written, BufferTooShort}
 use Rattle.stamped.specs.Stamped.{listed, listOf, madeOfRecords, readOf}
 use Rattle.stamped.proofs.Over.{opened-with}
 use Rattle.stamped.proofs.Lengths.{read-short}

@@ -14,8 +14,8 @@ use Rattle.records.specs.Encode.{writtenIn}
 use Rattle.journal.specs.declared.Numbers.{Numbers}
 use Rattle.journal.specs.declared.Answer.the-variants.{Accepted}
 use Rattle.journal.specs.Check.{checkOf}
-use Rattle.stamped.specs.declared.Answer.{Answer}
-use Rattle.stamped.specs.declared.Answer.the-variants.{Written, BufferTooShort}
+use Rattle.writing.specs.declared.Answer.{Answer}
+use Rattle.writing.specs.declared.Answer.the-variants.{Written, BufferTooShort}
 use Rattle.stamped.specs.Stamped.{Listed, listed, stopped, listOf, readOf}
 
 -- The records of bytes that were read to their end.

@@ -1,6 +1,6 @@
 -- The journal buffer is lent only where the number has room.
 use mathlib.Core.Path.{ap}
-use Rattle.stamped.specs.Answer.{replyOf}
+use Rattle.writing.specs.Answer.{replyOf}
 use Rattle.krossvil.proofs.Writers.{short-owed, long-owed}
 use Rattle.krossvil.proofs.Stamps.{stamped-writes, stamped-fits}
 use borrow.Author.Needs.{needs}

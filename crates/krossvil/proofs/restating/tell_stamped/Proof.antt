@@ -1,7 +1,7 @@
 -- A refusal touches no buffer; a success is told.
 use Rattle.krossvil.proofs.Outcomes.{refused, owed-same}
 use Rattle.krossvil.proofs.Stamps.{stamped-none}
-use Rattle.stamped.specs.Answer.{replyOf}
+use Rattle.writing.specs.Answer.{replyOf}
 use native.Mathlib.Omega.{arith}
 use mathlib.Core.Path.{refl, sym, ap}
 use borrow.Author.Needs.{needs}
