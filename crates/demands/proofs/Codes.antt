@@ -8,18 +8,17 @@ use borrow.Author.Tests.{eqb-false}
 use denote.Ref.{now}
 use lib.ListN.{length, getD}
 use Rattle.wire.specs.Choice.{_<?_, _≤?_, _=?_, if_then_else_}
-use Rattle.wire.specs.Made.{refused, answerIn}
+use Rattle.wire.specs.Made.{answerIn}
 use Rattle.wire.specs.Reply.{Reply, gives, refuses, valuesIn}
 use Rattle.wire.proofs.Apart.{apart}
 use Rattle.wire.proofs.Made.{answerMade, answer-either}
 use Rattle.table.specs.Check.{tableAnswer, tableIn}
-use Rattle.table.proofs.Under.{under-either}
 use Rattle.records.specs.Form as form
 use Rattle.records.specs.Form.{short}
-use Rattle.machine.specs.Walk as walk
-use Rattle.machine.specs.Walk.{RunOverBytes, ran, tooLong, runOver}
+use Rattle.records.proofs.Written.{journal-recovers}
 use Rattle.journal.specs.Answer as journal
 use Rattle.journal.specs.Check.{checkOf, checkShortOf}
+use Rattle.journal.proofs.Accepted.{entry-either}
 use Rattle.runtime.specs.Run.{runOf, answerOf}
 use Rattle.reaction.specs.declared.Answer as reaction′
 use Rattle.reaction.specs.declared.Answer.the-variants as reacts
@@ -34,7 +33,9 @@ use Rattle.writing.specs.declared.Answer.the-variants as stamped′
 use Rattle.stamped.specs.Stamped.{readOf}
 use Rattle.restate.specs.declared.Answer.the-variants as restate′
 use Rattle.restate.specs.Answer as restate
-use Rattle.restate.specs.Restate.{restated, shortenOf, lengthenOf}
+use Rattle.restate.specs.Restate.{passedOn, shortenOf, lengthenOf}
+use Rattle.restate.proofs.Restating.{restated-is}
+use Rattle.restate.proofs.Entries.{toShort, shortens}
 use Rattle.tight.specs.declared.Answer as tight′
 use Rattle.tight.specs.declared.Answer.the-variants as tight
 use Rattle.tight.specs.Answer as tight-answer
@@ -46,7 +47,7 @@ use Rattle.report.specs.Rows.{placesOf}
 use Rattle.krossvil.specs.Host.{told, codeOf, roomFor, afterCheck, reportTold}
 use Rattle.krossvil.specs.Small.{Fits}
 use Rattle.krossvil.proofs.TablePlaces.{table-fits}
-use Rattle.krossvil.proofs.Places.{refusal-small, RunBy, run-by, journal-fits, short-fits, run-fits, reaction-fits}
+use Rattle.krossvil.proofs.Places.{journal-fits, short-fits, run-fits, reaction-fits}
 use Rattle.krossvil.proofs.Several.{judge-fits}
 use Rattle.krossvil.proofs.Converts.{convert-fits}
 use Rattle.krossvil.proofs.Stamps.{stamped-fits}
@@ -101,16 +102,12 @@ moves-fits table P A n sums path = go (moves.judgedPasses? (judgeOf table P A n 
 -- ---- The shortener
 
 shortened-fits : (table s : List ℕ) (room : ℕ) → Fits (restate.replyOf (answerIn restate′.BufferTooShort (shortenOf table s) room))
-unfolding shortenOf restated
+unfolding shortenOf
 shortened-fits table s room =
     answer-either (λ a. Fits (restate.replyOf a)) restate′.BufferTooShort (record { number = omega arith; place = omega arith }) (shortenOf table s)
-    (under-either (λ a. refused (restate′.TableRefused a)) (λ t. restated short (runOver form.journal t s)) table (λ m. Fits (restate.replyOf (answerMade m)))
-    (λ passes. go (runOver form.journal (tableIn table) s) (run-by form.journal (omega arith) (tableIn table) s)) (table-fits false table)) room
-  where
-    go : (r : RunOverBytes) → RunBy r → Fits (restate.replyOf (answerMade (restated short r)))
-    go (ran input taken last) by = record { number = omega arith; place = omega arith }
-    go tooLong by = record { number = omega arith; place = omega arith }
-    go (walk.refused refusal place) by = record { number = refusal-small refusal; place = omega arith }
+    (entry-either passedOn toShort form.journal table s shortens (λ m. Fits (restate.replyOf (answerMade m)))
+    (λ ok. rw (restated-is form.journal short refl refl journal-recovers table s ok) (record { number = omega arith; place = omega arith }))
+    (λ refuses. journal-fits table s)) room
 
 -- ---- The report
 

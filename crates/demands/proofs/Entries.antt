@@ -23,7 +23,7 @@ use Rattle.writing.specs.Answer as stamped-answer
 use Rattle.restate.specs.declared.Answer as restate′
 use Rattle.restate.specs.declared.Answer.the-variants as restated
 use Rattle.restate.specs.Answer as restate-answer
-use Rattle.krossvil.proofs.Accepting.{Numbered, table-fine, buffer-kept}
+use Rattle.krossvil.proofs.Accepting.{Numbered, table-fine, journal-numbered, buffer-kept}
 use Rattle.salvage.specs.declared.Answer as salvage′
 use Rattle.salvage.specs.declared.Answer.the-variants as salvaged
 use Rattle.salvage.specs.Answer as salvage-answer
@@ -91,9 +91,7 @@ stamped-numbered stamped.BufferTooShort = refl
 
 pub restated-numbered : (a : restate′.Answer) → Numbered (restate-answer.replyOf a)
 restated-numbered (restated.Written size) = tt
-restated-numbered (restated.TableRefused answer) = table-fine answer
-restated-numbered restated.TooLong = refl
-restated-numbered (restated.Refused refusal place) = refusal-numbered refusal
+restated-numbered (restated.Refused checked) = journal-numbered checked
 restated-numbered restated.OldFormTooLong = refl
 restated-numbered restated.BufferTooShort = refl
 

@@ -32,4 +32,4 @@ module _ {A : Type 0} (replyOf : A → Reply) where
       where
         go : (m : Made A) → TellsLength replyOf m → LengthFits (replyOf (answerMade m))
         go (refused a) h = h
-        go (made a bytes) h = rw (h .0) (record { number = omega arith; place = omega arith }, omega (arith, h .1))
+        go (made a bytes) h = rw (h .0) (record { number = omega arith; place = omega arith }, omega (arith, h .1), omega arith)

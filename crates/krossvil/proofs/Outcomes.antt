@@ -16,6 +16,7 @@ use Rattle.journal.specs.declared.Answer as journal′
 use Rattle.journal.specs.declared.Answer.the-variants as checked
 use Rattle.journal.specs.Answer as journal
 use Rattle.journal.proofs.Answer as JournalT
+use Rattle.journal.proofs.Accepted.{judged}
 use Rattle.runtime.specs.declared.Answer as runtime′
 use Rattle.runtime.specs.declared.Answer.the-variants as made
 use Rattle.runtime.specs.Answer as runtime
@@ -73,6 +74,10 @@ journal-none (checked.Accepted n) h = absurd (miss (1 ∷ 2 ∷ 3 ∷ []) 0 tt h
 journal-none (checked.TableRefused answer) h = table-none answer
 journal-none checked.TooLong h = refl
 journal-none (checked.Refused refusal place) h = refl
+
+-- Acceptance has seven numbers.
+pub few-none : (most : ℕ) → most < 7 → (a : journal′.Answer) → length (valuesIn (journal.replyOf a)) ≤ most → valuesIn (journal.replyOf a) ≡ []
+few-none most low a few = judged a (λ n e. let seven : 7 ≤ most = rw e at few in absurd (omega arith)) (λ refuses other. journal-none a refuses)
 
 pub run-none : (a : runtime′.Answer) → OneOf (1 ∷ 2 ∷ 3 ∷ 4 ∷ []) (tagOf RuntimeT.the-type a) → valuesIn (runtime.replyOf a) ≡ []
 run-none (made.Written size) h = absurd (miss (1 ∷ 2 ∷ 3 ∷ 4 ∷ []) 0 tt h)

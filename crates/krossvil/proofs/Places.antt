@@ -137,14 +137,14 @@ abbrev RunFits : runtime′.Answer → Type 0
 RunFits a = LengthFits (runtime.replyOf a)
 
 pub small : (reply : Reply) → numberIn reply ≤ 35 → placeIn reply ≤ 1000000 → valuesIn reply ≡ [] → LengthFits reply
-small reply n p none = (record { number = n; place = omega arith }, rw none (omega arith))
+small reply n p none = (record { number = n; place = omega arith }, rw none (omega arith), rw none (omega arith))
 
 made-fits : (t : Table) (s : List ℕ) → RunFits (answerMade (madeUnder t s))
 unfolding madeOfRun
 made-fits t s = go (runOver stimulus t s) (run-by stimulus (omega arith) t s) (under-short t s)
   where
     go : (r : RunOverBytes) → RunBy r → Short (madeOfRun r) → RunFits (answerMade (madeOfRun r))
-    go (ran input taken last) h short = (record { number = omega arith; place = omega arith }, omega arith)
+    go (ran input taken last) h short = (record { number = omega arith; place = omega arith }, omega arith, omega arith)
     go tooLong h short = small (runtime.replyOf made.TooLong) (omega arith) (omega arith) refl
     go (refused refusal place) h short = small (runtime.replyOf (made.Refused refusal place)) (refusal-small refusal) h refl
 
@@ -153,7 +153,7 @@ unfolding runOf
 run-fits table s room a is =
     rw is (answer-either RunFits made.BufferTooShort (small (runtime.replyOf made.BufferTooShort) (omega arith) (omega arith) refl) (runOf table s)
     (under-either (λ x. Made.refused (made.TableRefused x)) (λ t. madeUnder t s) table (λ m. RunFits (answerMade m)) (λ e. made-fits (tableIn table) s)
-    (table-fits false table, rw (table-none (tableAnswer table)) (omega arith))) room)
+    (let none = table-none (tableAnswer table) in (table-fits false table, rw none (omega arith), rw none (omega arith)))) room)
 
 pub reaction-fits : (table : List ℕ) (P A : ℕ) → Fits (reaction.replyOf (reactOf table P A))
 unfolding reactOf forHolds reactionOf

@@ -31,10 +31,10 @@ use Rattle.journal.specs.Check.{checkIn}
 use Rattle.restate.specs.declared.Answer.{Answer}
 use Rattle.restate.specs.declared.Answer.the-variants.{Written, OldFormTooLong}
 use Rattle.journal.specs.Accepted.{AcceptedIn}
-use Rattle.journal.proofs.Accepted.{check-accepts, accepted}
+use Rattle.journal.proofs.Accepted.{check-accepts, accepted, entry-under}
 use Rattle.journal.proofs.Ahead.{not-too-long}
-use Rattle.restate.specs.Restate.{restated, withinLimit, shortenOf, lengthenOf}
-use Rattle.restate.proofs.Entries.{entryOf, under, made-accepted}
+use Rattle.restate.specs.Restate.{passedOn, restated, withinLimit, shortenOf, lengthenOf}
+use Rattle.restate.proofs.Entries.{toShort, toJournal, shortens, lengthens, made-accepted}
 use Rattle.restate.proofs.Restating.{past-limit, within-limit, restated-is, given-is, lengths}
 use Rattle.laws.specs.Shorts.{GapsFit, SameRun, ShortenedSame, LengthenedSame, oldLength, JournalsComeBack, ShortsComeBack, OthersTooLong, ShortensWell}
 
@@ -121,12 +121,12 @@ module _ (table j : List ℕ) (bytes : Bytes j) (ok : AcceptedIn journal table j
   shortened : shortenOf table j ≡ made (Written (length shorter)) shorter
   unfolding shortenOf
   shortened =
-      sym (under journal (restated short) table j (ok .passes)) ∙ restated-is journal short refl refl journal-recovers table j ok
+      sym (entry-under passedOn toShort journal table j (ok .passes)) ∙ restated-is journal short refl refl journal-recovers table j ok
 
 -- What was shortened was accepted.
 shortened-accepted : (table j s : List ℕ) (answer : Answer) → shortenOf table j ≡ made answer s → AcceptedIn journal table j
-unfolding shortenOf restated
-shortened-accepted table j s answer e = made-accepted journal (restated short) table j (λ x b f. apart cc) (λ refusal place x b f. apart cc) answer s e
+unfolding shortenOf
+shortened-accepted table j s answer e = made-accepted journal toShort shortens table j answer s e
 
 shortened-bytes : (table j s : List ℕ) (answer : Answer) → (e : shortenOf table j ≡ made answer s) → (ok : AcceptedIn journal table j) → Bytes j → s ≡ writtenIn short (ok .input) (ok .taken)
 shortened-bytes table j s answer e ok bytes = let same = sym e ∙ shortened table j bytes ok in cc
@@ -150,7 +150,7 @@ journals-come-back table j n bytes e =
     let room = not-too-long journal table j ok in (
       shorter table j bytes ok,
       shortened table j bytes ok,
-      sym (under short (λ r. withinLimit (restated journal r)) table (shorter table j bytes ok) (ok .passes)) ∙ within-limit _ _ j back room,
+      sym (entry-under passedOn toJournal short table (shorter table j bytes ok) (ok .passes)) ∙ within-limit _ _ j back room,
     )
 
 -- ---- Lengthened
@@ -167,7 +167,7 @@ module _ (table s : List ℕ) (bytes : Bytes s) (ok : AcceptedIn short table s) 
 
   entry : withinLimit (restated journal (runOver short (tableIn table) s)) ≡ lengthenOf table s
   unfolding lengthenOf
-  entry = under short (λ r. withinLimit (restated journal r)) table s (ok .passes)
+  entry = entry-under passedOn toJournal short table s (ok .passes)
 
   lengthened : length longer ≤ longestJournal → lengthenOf table s ≡ made (Written (length longer)) longer
   lengthened h = sym entry ∙ within-limit _ _ longer makes h
@@ -189,14 +189,13 @@ shorts-come-back table s n bytes e h =
       longer table s bytes ok,
       old-length table s bytes ok,
       lengthened table s bytes ok room,
-      sym (under journal (restated short) table (longer table s bytes ok) (ok .passes)) ∙ back,
+      sym (entry-under passedOn toShort journal table (longer table s bytes ok) (ok .passes)) ∙ back,
     )
 
 -- What was lengthened was accepted, and had room.
 lengthened-accepted : (table s j : List ℕ) (answer : Answer) → lengthenOf table s ≡ made answer j → AcceptedIn short table s
-unfolding lengthenOf restated withinLimit
-lengthened-accepted table s j answer e =
-    made-accepted short (λ r. withinLimit (restated journal r)) table s (λ x b f. apart cc) (λ refusal place x b f. apart cc) answer j e
+unfolding lengthenOf
+lengthened-accepted table s j answer e = made-accepted short toJournal lengthens table s answer j e
 
 lengthened-room : (table s j : List ℕ) (answer : Answer) → lengthenOf table s ≡ made answer j → (bytes : Bytes s) (ok : AcceptedIn short table s) →
     length (longer table s bytes ok) ≤ longestJournal

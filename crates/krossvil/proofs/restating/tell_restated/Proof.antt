@@ -11,7 +11,7 @@ use Rattle.krossvil.proofs.restating.tell_restated.Tie as tie
 returns : tie.Need-returns
 returns c =
     refused replyOf _ (c .before .before .before .before .before .args .done) refl _ _ (c .before .before .number .ensures) (c .before .place .ensures)
-    (restated-none (c .before .before .before .before .before .args .done) (c .before .before .before .match .keys2)) _ _ (c .code .ensures)
+    (restated-none (c .before .before .before .before .before .args .done) (c .before .before .before .match .keys2) (c .before .before .before .before .before .pre .2)) _ _ (c .code .ensures)
 
 cast-written : tie.Need-cast-written
 cast-written c = let small = rw (c .before .done .given .1) at (c .before .before .before .before .pre .1) in omega arith
