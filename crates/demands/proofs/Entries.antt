@@ -99,9 +99,7 @@ restated-numbered restated.BufferTooShort = refl
 
 pub salvage-numbered : (a : salvage′.Answer) → Numbered (salvage-answer.replyOf a)
 salvage-numbered (salvaged.Salvaged kept dropped number place) = tt
-salvage-numbered (salvaged.TableRefused answer) = table-fine answer
-salvage-numbered salvaged.TooLong = refl
-salvage-numbered (salvaged.Refused refusal place) = refusal-numbered refusal
+salvage-numbered (salvaged.Refused checked) = journal-numbered checked
 salvage-numbered salvaged.BufferTooShort = refl
 
 -- ---- Several moves

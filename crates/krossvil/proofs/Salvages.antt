@@ -4,7 +4,7 @@ use mathlib.Core.List.{List, [], _∷_}
 use mathlib.Core.Bool.{Bool, true, false}
 use Prim.Native.Nat.{ℕ, zero, suc, _/_, _%_, _<_, _≤_}
 use native.Mathlib.Omega.{arith}
-use borrow.Author.Tests.{lt-ltb, le-ltb, eqb-true, eqb-false}
+use borrow.Author.Tests.{lt-ltb, le-ltb, eqb-false}
 use types.Run.{OneOf, miss}
 use denote.Enum.Declared.{tagOf}
 use lib.ListN.{length, getD}
@@ -31,7 +31,7 @@ use Rattle.journal.specs.Answer as journal
 use Rattle.journal.specs.Answer.{listed}
 use Rattle.journal.specs.Check.{answerOfRun, checkIn, checkOf}
 use Rattle.salvage.specs.declared.Answer.{Answer}
-use Rattle.salvage.specs.declared.Answer.the-variants.{Salvaged, TableRefused, TooLong, Refused, BufferTooShort}
+use Rattle.salvage.specs.declared.Answer.the-variants.{Salvaged, Refused, BufferTooShort}
 use Rattle.salvage.specs.Answer.{replyOf}
 use Rattle.salvage.specs.Salvage.{closed, salvageOf}
 use Rattle.salvage.specs.Backwards.{SaidOf, cutWithin, fieldsBefore}
@@ -42,16 +42,15 @@ use Rattle.krossvil.specs.Host.{told, codeOf, journalTold}
 use Rattle.krossvil.specs.Small.{Fits, Counts, passedUp}
 use Rattle.krossvil.proofs.TablePlaces.{table-none, table-low}
 use Rattle.krossvil.proofs.Places.{refusal-small, refusal-high, journal-fits}
-use Rattle.krossvil.proofs.Outcomes.{told-fits}
+use Rattle.krossvil.proofs.Outcomes.{few-none, told-fits}
 use Rattle.krossvil.proofs.Accepting.{table-numbered}
 use Rattle.krossvil.proofs.Writers.{Writes, Gives, WriteOwed, made-writes, made-refused-owed}
 
-pub salvage-none : (a : Answer) → OneOf (1 ∷ 2 ∷ 3 ∷ 4 ∷ []) (tagOf AnswerT.the-type a) → valuesIn (replyOf a) ≡ []
-salvage-none (Salvaged kept dropped number place) h = absurd (miss (1 ∷ 2 ∷ 3 ∷ 4 ∷ []) 0 tt h)
-salvage-none (TableRefused answer) h = table-none answer
-salvage-none TooLong h = refl
-salvage-none (Refused refusal place) h = refl
-salvage-none BufferTooShort h = refl
+-- As for the converters of journals: what the check accepts is not passed on.
+pub salvage-none : (a : Answer) → OneOf (1 ∷ 2 ∷ []) (tagOf AnswerT.the-type a) → length (valuesIn (replyOf a)) ≤ 4 → valuesIn (replyOf a) ≡ []
+salvage-none (Salvaged kept dropped number place) h few = absurd (miss (1 ∷ 2 ∷ []) 0 tt h)
+salvage-none (Refused checked) h few = few-none 4 (omega arith) checked few
+salvage-none BufferTooShort h few = refl
 
 -- ---- By the journal check's answer
 
@@ -64,7 +63,7 @@ salvage-gives table s = rw (agrees s table .is) (go (checkOf table s))
     go checked.TooLong = tt
     go (checked.Refused x place) = by-place (place =? 0)
       where
-        by-place : (b : Bool) → Gives replyOf 4 (if b then made.refused (Refused x 0) else closed s (cutWithin s (fieldsBefore place)) (numberOf x) place)
+        by-place : (b : Bool) → Gives replyOf 4 (if b then made.refused (Refused (checked.Refused x place)) else closed s (cutWithin s (fieldsBefore place)) (numberOf x) place)
         by-place true = tt
         by-place false = (_ ∷ _ ∷ _ ∷ _ ∷ [], refl, refl)
 
@@ -76,7 +75,7 @@ abbrev Tells : Answer → Type 0
 Tells a = Fits (replyOf a) × Counts (replyOf a)
 
 tells-none : (a : Answer) → Fits (replyOf a) → valuesIn (replyOf a) ≡ [] → Tells a
-tells-none a fits none = (fits, λ k. rw none (go k))
+tells-none a fits none = (fits, (rw none (omega arith), λ k. rw none (go k)))
   where
     go : (k : ℕ) → getD {A = ℕ} [] k 0 ≤ longestJournal
     go zero = omega arith
@@ -84,7 +83,7 @@ tells-none a fits none = (fits, λ k. rw none (go k))
 
 tells-report : (kept dropped number place : ℕ) → kept ≤ longestJournal → dropped ≤ longestJournal → number ≤ 35 → place ≤ longestJournal →
     Tells (Salvaged kept dropped number place)
-tells-report kept dropped number place h₁ h₂ h₃ h₄ = (record { number = omega arith; place = omega arith }, go)
+tells-report kept dropped number place h₁ h₂ h₃ h₄ = (record { number = omega arith; place = omega arith }, (omega arith, go))
   where
     go : (k : ℕ) → getD (kept ∷ dropped ∷ number ∷ place ∷ []) k 0 ≤ longestJournal
     go zero = h₁
@@ -100,13 +99,13 @@ salvage-fits table s room a is =
   where
     go : (x : journal′.Answer) → Placed s x → Fits (journal.replyOf x) → Tells (answerMade (madeOf s x))
     go (checked.Accepted n) short fits = tells-report (length s) 0 0 0 short (omega arith) (omega arith) (omega arith)
-    go (checked.TableRefused answer) h fits = tells-none (TableRefused answer) fits (table-none answer)
-    go checked.TooLong h fits = tells-none TooLong fits refl
+    go (checked.TableRefused answer) h fits = tells-none (Refused (checked.TableRefused answer)) fits (table-none answer)
+    go checked.TooLong h fits = tells-none (Refused checked.TooLong) fits refl
     go (checked.Refused x place) placed fits = by-place (place =? 0) refl
       where
         by-place : (b : Bool) → (place =? 0) ≡ b →
-            Tells (answerMade (if b then made.refused (Refused x 0) else closed s (cutWithin s (fieldsBefore place)) (numberOf x) place))
-        by-place true e = tells-none (Refused x 0) (record { number = refusal-small x; place = omega arith }) refl
+            Tells (answerMade (if b then made.refused (Refused (checked.Refused x place)) else closed s (cutWithin s (fieldsBefore place)) (numberOf x) place))
+        by-place true e = tells-none (Refused (checked.Refused x place)) fits refl
         by-place false e =
             let h = placed (eqb-false place 0 e) in
             tells-report _ _ _ _ (omega (arith, h .0, h .1, h .2, tick-within s (fieldsBefore place))) (omega (arith, h .2)) (refusal-small x) (omega (arith, h .1, h .2))
@@ -134,10 +133,10 @@ table-said table s =
     (λ r other. rw r (table-numbered (tableAnswer table) r, table-low false table))
 
 -- What the check told is passed up, or it is what salvage goes by.
-pub data Heard (table s : List ℕ) (code number place : ℕ) : Type 0 where
-  goes-on : passedUp number place ≡ false → SaidOf (checkOf table s) number place → Heard table s code number place
-  stops : passedUp number place ≡ true → (x : Answer) → salvageOf table s ≡ made.refused x → valuesIn (replyOf x) ≡ [] → code ≡ codeOf (told (replyOf x) 28) →
-      Heard table s code number place
+pub data Heard (table s : List ℕ) (number place : ℕ) : Type 0 where
+  goes-on : passedUp number place ≡ false → SaidOf (checkOf table s) number place → Heard table s number place
+  stops : passedUp number place ≡ true → salvageOf table s ≡ made.refused (Refused (checkOf table s)) → valuesIn (journal.replyOf (checkOf table s)) ≡ [] →
+      Heard table s number place
 
 module _ (table s : List ℕ) (code number place : ℕ) (e : code ≡ codeOf (journalTold table s 28)) (number-is : number ≡ code / 4294967296)
     (place-is : place ≡ code % 4294967296) where
@@ -147,50 +146,44 @@ module _ (table s : List ℕ) (code number place : ℕ) (e : code ≡ codeOf (jo
       let whole : code ≡ codeOf reply = f ∙ ap codeOf (told-fits reply 28 (rw none (omega arith))) in
       (omega (arith, fits .place), omega (arith, fits .place))
 
-  heard : Heard table s code number place
+  heard : Heard table s number place
   unfolding passedUp
   heard = go (checkOf table s) refl (table-said table s) (journal-fits table s)
     where
       stopped : (x : Refusal) (at : ℕ) → checkOf table s ≡ checked.Refused x at → (number ≡ numberOf x) × (place ≡ at) → (b : Bool) → (at =? 0) ≡ b →
-          Heard table s code number place
+          Heard table s number place
       stopped x at f (n, p) true z =
-          let zero : at ≡ 0 = eqb-true at 0 z in
-          let same : checkOf table s ≡ checked.Refused x 0 = f ∙ ap (checked.Refused x) zero in
-          stops (rw (n, p, refusal-numbered x, le-ltb (numberOf x) 20 (refusal-high x), zero) refl) (Refused x 0) (agrees s table .is ∙ rw same refl) refl
-          (e ∙ rw same refl)
+          stops (rw (n, p, refusal-numbered x, le-ltb (numberOf x) 20 (refusal-high x), z) refl) (agrees s table .is ∙ rw (f, z) refl) (rw f refl)
       stopped x at f (n, p) false z =
           goes-on (rw (n, p, refusal-numbered x, le-ltb (numberOf x) 20 (refusal-high x), z) refl) (rw f (n, p, eqb-false at 0 z))
 
-      go : (a : journal′.Answer) → checkOf table s ≡ a → TableSaid a → Fits (journal.replyOf a) → Heard table s code number place
+      go : (a : journal′.Answer) → checkOf table s ≡ a → TableSaid a → Fits (journal.replyOf a) → Heard table s number place
       go (checked.Accepted n) f said fits =
           let none : code ≡ 0 = e ∙ rw (f, told-fits (gives (listed n)) 28 (omega arith)) refl in
           let zero : number ≡ 0 = omega arith in
           goes-on (rw zero refl) (rw f zero)
       go (checked.TableRefused x) f (some, low) fits =
-          let c : code ≡ codeOf (told (table-answer.replyOf x) 28) = e ∙ rw f refl in
-          let n = told-apart (table-answer.replyOf x) fits (table-none x) c in
-          stops (rw (n .0, some, lt-ltb (numberIn (table-answer.replyOf x)) 20 low) refl) (TableRefused x) (agrees s table .is ∙ rw f refl) (table-none x) c
+          let n = told-apart (table-answer.replyOf x) fits (table-none x) (e ∙ rw f refl) in
+          stops (rw (n .0, some, lt-ltb (numberIn (table-answer.replyOf x)) 20 low) refl) (agrees s table .is ∙ rw f refl) (rw f (table-none x))
       go checked.TooLong f said fits =
-          let c : code ≡ codeOf (told (refuses 19 0) 28) = e ∙ rw f refl in
-          let n = told-apart (refuses 19 0) fits refl c in
-          stops (rw (n .0) refl) TooLong (agrees s table .is ∙ rw f refl) refl c
+          let n = told-apart (refuses 19 0) fits refl (e ∙ rw f refl) in
+          stops (rw (n .0) refl) (agrees s table .is ∙ rw f refl) (rw f refl)
       go (checked.Refused x at) f said fits =
-          let c : code ≡ codeOf (told (refuses (numberOf x) at) 28) = e ∙ rw f refl in
-          stopped x at f (told-apart (refuses (numberOf x) at) fits refl c) (at =? 0) refl
+          stopped x at f (told-apart (refuses (numberOf x) at) fits refl (e ∙ rw f refl)) (at =? 0) refl
 
   -- What the entry needs of it.
   pub salvage-said : passedUp number place ≡ false → SaidOf (checkOf table s) number place
   salvage-said left = go heard
     where
-      go : Heard table s code number place → SaidOf (checkOf table s) number place
+      go : Heard table s number place → SaidOf (checkOf table s) number place
       go (goes-on f said) = said
-      go (stops f x is none c) = never (sym left ∙ f)
+      go (stops f is none) = never (sym left ∙ f)
 
   pub salvage-passed : passedUp number place ≡ true → (buffer answer : List ℕ) →
       WriteOwed (λ room. replyOf (answerIn BufferTooShort (salvageOf table s) room)) (bufferIn (salvageOf table s)) buffer answer code answer buffer
   salvage-passed up buffer answer = go heard
     where
-      go : Heard table s code number place →
+      go : Heard table s number place →
           WriteOwed (λ room. replyOf (answerIn BufferTooShort (salvageOf table s) room)) (bufferIn (salvageOf table s)) buffer answer code answer buffer
       go (goes-on f said) = never (sym f ∙ up)
-      go (stops f x is none c) = made-refused-owed replyOf BufferTooShort (salvageOf table s) x is none 28 code c buffer answer
+      go (stops f is none) = made-refused-owed replyOf BufferTooShort (salvageOf table s) (Refused (checkOf table s)) is none 28 code e buffer answer

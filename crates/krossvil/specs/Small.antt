@@ -14,9 +14,9 @@ pub record Fits (reply : Reply) : Type 0 where
 abbrev pub LengthFits : Reply → Type 0
 LengthFits reply = Fits reply × (getD (valuesIn reply) 0 0 ≤ longestJournal) × (length (valuesIn reply) ≤ 1)
 
--- Every number of the reply counts bytes of a journal, or is smaller.
+-- Four numbers at most, and each counts bytes of a journal, or is smaller.
 abbrev pub Counts : Reply → Type 0
-Counts reply = (k : ℕ) → getD (valuesIn reply) k 0 ≤ longestJournal
+Counts reply = (length (valuesIn reply) ≤ 4) × ((k : ℕ) → getD (valuesIn reply) k 0 ≤ longestJournal)
 
 -- A refusal of the table, of the length or of the opening field.
 unfoldable pub passedUp : (number place : ℕ) → Bool

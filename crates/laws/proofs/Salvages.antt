@@ -38,7 +38,7 @@ use Rattle.machine.proofs.Over.{went-through, goes-through, opened-with}
 use Rattle.journal.specs.declared.Answer.the-variants as checked
 use Rattle.journal.specs.Check.{checkIn, numbersOf, answerOfRun, checkOf, checkUnder}
 use Rattle.salvage.specs.declared.Answer.{Answer}
-use Rattle.salvage.specs.declared.Answer.the-variants.{Salvaged, TableRefused, TooLong, Refused, BufferTooShort}
+use Rattle.salvage.specs.declared.Answer.the-variants.{Salvaged, Refused, BufferTooShort}
 use Rattle.salvage.specs.Salvage.{Cut, cutAt, firstCut, lastCut, cutAfter, cutOver, unchanged, madeBy, opened, salvageUnder, salvageOf}
 use Rattle.salvage.proofs.Reaching.{OneTaken, reaches}
 use Rattle.machine.specs.RunsOver.{RunsOver}
@@ -146,7 +146,7 @@ module _ (table : List ℕ) (passes : tableAnswer table ≡ Passes) where
 
   salvage-is : (s : List ℕ) → salvageOf table s ≡ salvageUnder own s
   unfolding salvageOf
-  salvage-is s = under-passes (λ a. refused (TableRefused a)) (λ t. salvageUnder t s) table passes
+  salvage-is s = under-passes (λ a. refused (Refused (checked.TableRefused a))) (λ t. salvageUnder t s) table passes
 
   -- A journal that the machine goes through is accepted, and comes back.
   module _ (s : List ℕ) (input : ℕ) (taken : List Record) (last : Machine) (through : runOver journal own s ≡ ran input taken last) where
@@ -310,13 +310,13 @@ module _ (table s : List ℕ) where
           } in
           walked can short input is _ refl
 
-      sized : (b : Bool) → (longestJournal <? length s) ≡ b → Fine (if b then refused TooLong else opened t s (openingOf journal (t .inputs) s))
+      sized : (b : Bool) → (longestJournal <? length s) ≡ b → Fine (if b then refused (Refused checked.TooLong) else opened t s (openingOf journal (t .inputs) s))
       sized true e = λ k d n p f. apart cc
       sized false e = begins (ltb-false longestJournal (length s) e) (openingOf journal (t .inputs) s) refl
 
   always-fine : Bytes s → Fine (salvageOf table s)
   unfolding salvageOf
-  always-fine bytes = under-either (λ a. refused (TableRefused a)) (λ t. salvageUnder t s) table Fine (under bytes) (λ k d n p e. apart cc)
+  always-fine bytes = under-either (λ a. refused (Refused (checked.TableRefused a))) (λ t. salvageUnder t s) table Fine (under bytes) (λ k d n p e. apart cc)
 
   succeeded : (buffer : List ℕ) (kept dropped number place : ℕ) (m : Made Answer) → Fine m →
       answerIn BufferTooShort m (length buffer) ≡ Salvaged kept dropped number place →

@@ -12,16 +12,16 @@ returns : tie.Need-returns
 returns c =
     let start = c .before .before .before .before .before in
     refused replyOf _ (start .args .done) refl _ _ (c .before .before .number .ensures) (c .before .place .ensures)
-    (salvage-none (start .args .done) (c .before .before .before .match .keys2)) _ _ (c .code .ensures)
+    (salvage-none (start .args .done) (c .before .before .before .match .keys2) (start .pre .1 .0)) _ _ (c .code .ensures)
 
 cast-t10 : tie.Need-cast-t10
-cast-t10 c = let small = rw (c .before .done .given .1) at (c .before .before .before .before .pre .1) in omega (arith, small 0)
+cast-t10 c = let small = rw (c .before .done .given .1) at (c .before .before .before .before .pre .1 .1) in omega (arith, small 0)
 
 cast-t11 : tie.Need-cast-t11
-cast-t11 c = let small = rw (c .before .done .given .1) at (c .before .before .before .before .pre .1) in omega (arith, small 1)
+cast-t11 c = let small = rw (c .before .done .given .1) at (c .before .before .before .before .pre .1 .1) in omega (arith, small 1)
 
 cast-t12 : tie.Need-cast-t12
-cast-t12 c = let small = rw (c .before .done .given .1) at (c .before .before .before .before .pre .1) in omega (arith, small 3)
+cast-t12 c = let small = rw (c .before .done .given .1) at (c .before .before .before .before .pre .1 .1) in omega (arith, small 3)
 
 returns-2 : tie.Need-returns-2
 returns-2 c =
