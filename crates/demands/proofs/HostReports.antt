@@ -29,11 +29,11 @@ use Rattle.tally.specs.Sums.{summed}
 use Rattle.tally.specs.Tally.{tallyOf, tallyIn}
 use Rattle.tally.proofs.Places.{Sized}
 use Rattle.tally.proofs.Sums.{none-more}
-use Rattle.report.specs.declared.Answer.the-variants.{Taken, TableRefused, Full}
+use Rattle.report.specs.declared.Answer.the-variants.{Taken, Full}
 use Rattle.report.specs.declared.Added as added
 use Rattle.report.specs.declared.Report.{Report}
 use Rattle.report.specs.Answer.{replyOf}
-use Rattle.report.specs.Report.{mostJournals, beginOf, tableKept, withTally, asItWas, addedBy, addUnder, addOf}
+use Rattle.report.specs.Report.{mostJournals, beginOf, tableKept, withTally, asItWas, notTaken, addedBy, addUnder, addOf}
 use Rattle.report.specs.Rows.{placesOf, rowOf}
 use Rattle.krossvil.specs.Host.{bufferAfter, roomFor, afterCheck, reportTold}
 use Rattle.laws.specs.Reports.{addedAll, NoneFull}
@@ -190,7 +190,7 @@ module _ (table : List ℕ) (passes : tableAnswer table ≡ Passes) where
 
     add-is : (s : List ℕ) → addOf x s ≡ addedBy t x (runOver journal t s)
     unfolding addOf addUnder
-    add-is s = rw (kept .own) (under-passes (λ a. asItWas x (TableRefused a)) (λ u. addedBy u x (runOver journal u s)) table passes)
+    add-is s = rw (kept .own) (under-passes (λ a. notTaken x (checked.TableRefused a)) (λ u. addedBy u x (runOver journal u s)) table passes)
 
     one-added : (s : List ℕ) → Added (reportTold table s row) (runOver journal t s) (addOf x s)
     unfolding reportTold checkIn

@@ -30,10 +30,10 @@ use Rattle.tally.specs.declared.Tally.{Tally}
 use Rattle.tally.specs.Sums.{summed}
 use Rattle.tally.proofs.Over.{records-over}
 use Rattle.tally.proofs.Totals.{dwell-sums-to-end, pairs-sum-to-dwell, entries-sum-to-moves, tally-small, places-of-tally}
-use Rattle.report.specs.declared.Answer.the-variants.{Taken, TableRefused, TooLong, Refused, Full}
+use Rattle.report.specs.declared.Answer.the-variants.{Taken, Full}
 use Rattle.report.specs.declared.Report.{Report}
 use Rattle.report.specs.declared.Added as added
-use Rattle.report.specs.Report.{mostJournals, emptyWith, beginOf, tableKept, withTally, asItWas, addedBy, addUnder, addOf}
+use Rattle.report.specs.Report.{mostJournals, emptyWith, beginOf, tableKept, withTally, asItWas, notTaken, addedBy, addUnder, addOf}
 use Rattle.laws.specs.Reports.{RefusedUnchanged, addedAll, NoneFull, Permuted, empty, first, swapped, further, AnyOrder}
 use Rattle.laws.specs.Reports.{KnownJournal, knownOf, knownJournalIn, accepted, overAll, at, Tells, AllBytes, TellsAll, numbersIn, KnownAccepted}
 
@@ -56,7 +56,7 @@ unfolding addOf addUnder knownJournalIn underTable
 effect x s = go (passes? (tableAnswer (tableKept x)))
   where
     go : (b : Bool) → Effect x (if b then knownOf (tableIn (tableKept x)) (runOver journal (tableIn (tableKept x)) s) else [])
-        (if b then addedBy (tableIn (tableKept x)) x (runOver journal (tableIn (tableKept x)) s) else asItWas x (TableRefused (tableAnswer (tableKept x))))
+        (if b then addedBy (tableIn (tableKept x)) x (runOver journal (tableIn (tableKept x)) s) else notTaken x (checked.TableRefused (tableAnswer (tableKept x))))
     go true = run-effect (tableIn (tableKept x)) x (runOver journal (tableIn (tableKept x)) s)
     go false = (refl, (λ e. apart cc), (λ e. apart cc))
 

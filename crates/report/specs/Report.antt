@@ -11,6 +11,8 @@ use Rattle.table.specs.Entries.{zeros, padded}
 use Rattle.table.specs.Under.{underTable}
 use Rattle.records.specs.Form.{journal}
 use Rattle.machine.specs.Walk.{RunOverBytes, ran, tooLong, refused, runOver}
+use Rattle.journal.specs.declared.Answer as checks
+use Rattle.journal.specs.declared.Answer.the-variants as check
 use Rattle.tally.specs.declared.Tally.{Tally}
 use Rattle.tally.specs.Tally.{tallyOf}
 use Rattle.tally.specs.Sums.{summed}
@@ -18,7 +20,7 @@ use Rattle.report.specs.declared.Report.{Report}
 use Rattle.report.specs.declared.Begun.{Begun}
 use Rattle.report.specs.declared.Added as added
 use Rattle.report.specs.declared.Answer.{Answer}
-use Rattle.report.specs.declared.Answer.the-variants.{Taken, TableRefused, TooLong, Refused, Full}
+use Rattle.report.specs.declared.Answer.the-variants.{Taken, Refused, Full}
 
 abbrev pub mostJournals : ℕ
 mostJournals = 1000
@@ -62,17 +64,21 @@ withTally x y = record {
 abbrev pub asItWas : Report → Answer → added.Added
 asItWas x answer = record { answer = answer; report = x }
 
+-- What the check refuses.
+abbrev pub notTaken : Report → checks.Answer → added.Added
+notTaken x checked = asItWas x (Refused checked)
+
 -- 35 comes after the checker's refusals.
 unfoldable pub addedBy : Table → Report → RunOverBytes → added.Added
 addedBy t x (ran input taken last) =
     if mostJournals ≤? x .journals then asItWas x Full
     else record { answer = Taken; report = withTally x (tallyOf t input taken (last .time)) }
-addedBy t x tooLong = asItWas x TooLong
-addedBy t x (refused refusal place) = asItWas x (Refused refusal place)
+addedBy t x tooLong = notTaken x check.TooLong
+addedBy t x (refused refusal place) = notTaken x (check.Refused refusal place)
 
 -- Under these bytes of a table.
 unfoldable pub addUnder : List ℕ → Report → List ℕ → added.Added
-addUnder table x s = underTable (λ answer. asItWas x (TableRefused answer)) (λ t. addedBy t x (runOver journal t s)) table
+addUnder table x s = underTable (λ answer. notTaken x (check.TableRefused answer)) (λ t. addedBy t x (runOver journal t s)) table
 
 -- It is read under the report's own table. One that was begun with none refuses it as the table check does.
 unfoldable pub addOf : Report → List ℕ → added.Added

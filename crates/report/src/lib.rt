@@ -10,7 +10,6 @@ ghost use Rattle.records.specs.Form.{journal};
 ghost use Rattle.machine.specs.Walk.{runOver};
 ghost use Rattle.journal.specs.Accepted.{AcceptedIn};
 ghost use Rattle.report.specs.Report.{longestTable, mostJournals, emptyWith, beginOf, withTally, addedBy, addUnder, addOf};
-use records::Refusal;
 use tally::Tally;
 use tally::add_numbers;
 use tally::count;
@@ -33,11 +32,10 @@ pub struct Report {
     pub entries: [u64; 32],
 }
 
+// A journal was taken, or what is turned down: what the check refuses, or 35.
 pub enum Answer {
     Taken,
-    TableRefused(table::Answer),
-    TooLong,
-    Refused(Refusal, usize),
+    Refused(journal::Answer),
     Full,
 }
 
@@ -47,9 +45,7 @@ impl Answer {
     {
         match self {
             Answer::Taken => 0,
-            Answer::TableRefused(answer) => answer.number(),
-            Answer::TooLong => 19,
-            Answer::Refused(refusal, _) => refusal.number(),
+            Answer::Refused(checked) => checked.number(),
             Answer::Full => 35,
         }
     }
@@ -59,9 +55,7 @@ impl Answer {
     {
         match self {
             Answer::Taken => 0,
-            Answer::TableRefused(answer) => answer.place(),
-            Answer::TooLong => 0,
-            Answer::Refused(_, place) => place,
+            Answer::Refused(checked) => checked.place(),
             Answer::Full => 0,
         }
     }
@@ -179,21 +173,13 @@ fn add_under(report: Report, table: &[u8], s: &[u8]) -> Added
     ensures { λ r. ⌜ r ≡ addUnder (now (table .entry)) report (now (s .entry)) ⌝ }
 {
     let checked = journal::check(table, s);
-    match checked {
-        journal::Answer::Accepted(_) => add_accepted(report, table, s),
-        journal::Answer::TableRefused(answer) => Added {
-            answer: Answer::TableRefused(answer),
+    let journal::Answer::Accepted(_) = checked else {
+        return Added {
+            answer: Answer::Refused(checked),
             report,
-        },
-        journal::Answer::TooLong => Added {
-            answer: Answer::TooLong,
-            report,
-        },
-        journal::Answer::Refused(refusal, place) => Added {
-            answer: Answer::Refused(refusal, place),
-            report,
-        },
-    }
+        };
+    };
+    add_accepted(report, table, s)
 }
 
 impl Report {
