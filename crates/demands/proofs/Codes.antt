@@ -8,18 +8,11 @@ use borrow.Author.Tests.{eqb-false}
 use denote.Ref.{now}
 use lib.ListN.{length, getD}
 use Rattle.wire.specs.Choice.{_<?_, _≤?_, _=?_, if_then_else_}
-use Rattle.wire.specs.Made.{answerIn}
 use Rattle.wire.specs.Reply.{Reply, gives, refuses, valuesIn}
 use Rattle.wire.proofs.Apart.{apart}
-use Rattle.wire.proofs.Made.{answerMade, answer-either}
 use Rattle.table.specs.Check.{tableAnswer, tableIn}
-use Rattle.records.specs.Form as form
-use Rattle.records.specs.Form.{short}
-use Rattle.records.proofs.Written.{journal-recovers}
 use Rattle.journal.specs.Answer as journal
 use Rattle.journal.specs.Check.{checkOf, checkShortOf}
-use Rattle.journal.proofs.Accepted.{entry-either}
-use Rattle.runtime.specs.Run.{runOf, answerOf}
 use Rattle.reaction.specs.declared.Answer as reaction′
 use Rattle.reaction.specs.declared.Answer.the-variants as reacts
 use Rattle.reaction.specs.Answer as reaction
@@ -27,37 +20,28 @@ use Rattle.reaction.specs.Reaction.{reactOf}
 use Rattle.moves.specs.Answer as moves
 use Rattle.moves.specs.declared.Answer.the-variants as moved
 use Rattle.moves.specs.Moves.{judgeOf, reactionOver, movesOf}
-use Rattle.convert.specs.declared.Answer.the-variants as convert′
-use Rattle.convert.specs.Convert.{madeOf}
-use Rattle.writing.specs.declared.Answer.the-variants as stamped′
-use Rattle.stamped.specs.Stamped.{readOf}
-use Rattle.restate.specs.declared.Answer.the-variants as restate′
-use Rattle.restate.specs.Answer as restate
-use Rattle.restate.specs.Restate.{passedOn, shortenOf, lengthenOf}
-use Rattle.restate.proofs.Restating.{restated-is}
-use Rattle.restate.proofs.Entries.{toShort, shortens}
 use Rattle.tight.specs.declared.Answer as tight′
 use Rattle.tight.specs.declared.Answer.the-variants as tight
 use Rattle.tight.specs.Answer as tight-answer
 use Rattle.tight.specs.Tight.{reactTightOf}
-use Rattle.salvage.specs.declared.Answer.the-variants as salvage′
-use Rattle.salvage.specs.Salvage.{salvageOf}
 use Rattle.report.specs.Report.{mostJournals}
 use Rattle.report.specs.Rows.{placesOf}
-use Rattle.krossvil.specs.Host.{told, codeOf, roomFor, afterCheck, reportTold}
+use Rattle.krossvil.specs.Host.{told, codeOf, madeTold, roomFor, afterCheck, reportTold}
 use Rattle.krossvil.specs.Small.{Fits}
 use Rattle.krossvil.proofs.TablePlaces.{table-fits}
-use Rattle.krossvil.proofs.Places.{journal-fits, short-fits, run-fits, reaction-fits}
+use Rattle.krossvil.proofs.Places.{journal-fits, short-fits, reaction-fits}
 use Rattle.krossvil.proofs.Several.{judge-fits}
-use Rattle.krossvil.proofs.Converts.{convert-fits}
-use Rattle.krossvil.proofs.Stamps.{stamped-fits}
-use Rattle.krossvil.proofs.Restates.{lengthen-fits}
 use Rattle.krossvil.proofs.Tights.{tight-fits}
-use Rattle.krossvil.proofs.Salvages.{salvage-fits}
+use Rattle.krossvil.proofs.Writers.{Writer, said}
+use Rattle.krossvil.proofs.Runs.{run-writer}
+use Rattle.krossvil.proofs.Converts.{convert-writer}
+use Rattle.krossvil.proofs.Stamps.{stamped-writer}
+use Rattle.krossvil.proofs.Restates.{shorten-writer, lengthen-writer}
+use Rattle.krossvil.proofs.Salvages.{salvage-writer}
 use Rattle.krossvil.proofs.Accepting.{Numbered, table-fine, journal-numbered}
 use Rattle.krossvil.proofs.Reports.{report-numbered}
 use Rattle.demands.specs.Codes.{ReadsBack, EveryCodeReadsBack}
-use Rattle.demands.proofs.Entries.{run-numbered, convert-numbered, stamped-numbered, restated-numbered, salvage-numbered, moves-numbered}
+use Rattle.demands.proofs.Entries.{moves-numbered}
 
 -- ---- One reply
 
@@ -76,6 +60,11 @@ told-back reply fits numbered room code e = go (room <? 4 * length (valuesIn rep
     go : (b : Bool) → code ≡ codeOf (if b then refuses 30 0 else reply) → ReadsBack code (if b then refuses 30 0 else reply)
     go true f = reads-back (refuses 30 0) (record { number = omega arith; place = omega arith }) refl code f
     go false f = reads-back reply fits numbered code f
+
+-- What an entry that writes replies, whatever the room.
+writer-back : (w : Writer) (buffer : List ℕ) (room code : ℕ) → code ≡ codeOf (madeTold (w .replyOf) (w .short) (w .makes) buffer room) →
+    ReadsBack code (madeTold (w .replyOf) (w .short) (w .makes) buffer room)
+writer-back w buffer room code e = let s = said w (length buffer) in told-back _ (s .0) (s .1) room code e
 
 -- ---- The calculators
 
@@ -99,16 +88,6 @@ moves-fits table P A n sums path = go (moves.judgedPasses? (judgeOf table P A n 
     go true = record { number = omega arith; place = omega arith }
     go false = judge-fits table P A n sums path
 
--- ---- The shortener
-
-shortened-fits : (table s : List ℕ) (room : ℕ) → Fits (restate.replyOf (answerIn restate′.BufferTooShort (shortenOf table s) room))
-unfolding shortenOf
-shortened-fits table s room =
-    answer-either (λ a. Fits (restate.replyOf a)) restate′.BufferTooShort (record { number = omega arith; place = omega arith }) (shortenOf table s)
-    (entry-either passedOn toShort form.journal table s shortens (λ m. Fits (restate.replyOf (answerMade m)))
-    (λ ok. rw (restated-is form.journal short refl refl journal-recovers table s ok) (record { number = omega arith; place = omega arith }))
-    (λ refuses. journal-fits table s)) room
-
 -- ---- The report
 
 report-fits : (table s report : List ℕ) → Fits (reportTold table s report)
@@ -131,9 +110,7 @@ pub every-code-reads-back : EveryCodeReadsBack
 every-code-reads-back = (
   λ κs a r s p. reads-back _ (table-fits false (now (a .0))) (table-fine (tableAnswer (now (a .0)))) r p,
   λ κs a r s p. told-back _ (journal-fits (now (a .0)) (now (a .1 .0))) (journal-numbered (checkOf (now (a .0)) (now (a .1 .0)))) _ r (p .0),
-  λ κs a r s p.
-      let answer = answerOf (runOf (now (a .0)) (now (a .1 .0))) (length (now (a .1 .1 .0))) in
-      told-back _ (run-fits (now (a .0)) (now (a .1 .0)) _ answer refl .0) (run-numbered answer) _ r (p .0),
+  λ κs a r s p. writer-back (run-writer (now (a .0)) (now (a .1 .0))) (now (a .1 .1 .0)) _ r (p .0),
   λ κs a r s p.
       told-back _ (reaction-fits (now (a .0)) (a .1 .0) (a .1 .1 .0)) (reaction-numbered (reactOf (now (a .0)) (a .1 .0) (a .1 .1 .0))) _ r (p .0),
   λ κs a r s p.
@@ -141,24 +118,14 @@ every-code-reads-back = (
       let path = length (now (a .1 .1 .1 .1 .1 .0)) in
       told-back _ (moves-fits (now (a .0)) (a .1 .0) (a .1 .1 .0) (a .1 .1 .1 .0) sums path)
       (moves-numbered (movesOf (now (a .0)) (a .1 .0) (a .1 .1 .0) (a .1 .1 .1 .0) sums path)) _ r (p .0),
-  λ κs a r s p.
-      let answer = answerIn convert′.BufferTooShort (madeOf (now (a .0))) (length (now (a .1 .0))) in
-      told-back _ (convert-fits (now (a .0)) _ answer refl) (convert-numbered answer) _ r (p .0),
-  λ κs a r s p.
-      let answer = answerIn stamped′.BufferTooShort (readOf (now (a .0))) (length (now (a .1 .0))) in
-      told-back _ (stamped-fits (now (a .0)) _ answer refl .0) (stamped-numbered answer) _ r (p .0),
+  λ κs a r s p. writer-back (convert-writer (now (a .0))) (now (a .1 .0)) _ r (p .0),
+  λ κs a r s p. writer-back (stamped-writer (now (a .0))) (now (a .1 .0)) _ r (p .0),
   λ κs a r s p. told-back _ (short-fits (now (a .0)) (now (a .1 .0))) (journal-numbered (checkShortOf (now (a .0)) (now (a .1 .0)))) _ r (p .0),
-  λ κs a r s p.
-      let answer = answerIn restate′.BufferTooShort (shortenOf (now (a .0)) (now (a .1 .0))) (length (now (a .1 .1 .0))) in
-      told-back _ (shortened-fits (now (a .0)) (now (a .1 .0)) _) (restated-numbered answer) _ r (p .0),
-  λ κs a r s p.
-      let answer = answerIn restate′.BufferTooShort (lengthenOf (now (a .0)) (now (a .1 .0))) (length (now (a .1 .1 .0))) in
-      told-back _ (lengthen-fits (now (a .0)) (now (a .1 .0)) _ answer refl .0) (restated-numbered answer) _ r (p .0),
+  λ κs a r s p. writer-back (shorten-writer (now (a .0)) (now (a .1 .0))) (now (a .1 .1 .0)) _ r (p .0),
+  λ κs a r s p. writer-back (lengthen-writer (now (a .0)) (now (a .1 .0))) (now (a .1 .1 .0)) _ r (p .0),
   λ κs a r s p.
       told-back _ (tight-fits (now (a .0)) (a .1 .0) (a .1 .1 .0)) (tight-numbered (reactTightOf (now (a .0)) (a .1 .0) (a .1 .1 .0))) _ r (p .0),
-  λ κs a r s p.
-      let answer = answerIn salvage′.BufferTooShort (salvageOf (now (a .0)) (now (a .1 .0))) (length (now (a .1 .1 .0))) in
-      told-back _ (salvage-fits (now (a .0)) (now (a .1 .0)) _ answer refl .0) (salvage-numbered answer) _ r (p .0),
+  λ κs a r s p. writer-back (salvage-writer (now (a .0)) (now (a .1 .0))) (now (a .1 .1 .0)) _ r (p .0),
   λ κs a r s p.
       reads-back _ (report-fits (now (a .0)) (now (a .1 .0)) (now (a .1 .1 .0))) (report-numbered (now (a .0)) (now (a .1 .0)) (now (a .1 .1 .0))) r (p .0),
 )

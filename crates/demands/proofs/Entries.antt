@@ -9,30 +9,15 @@ use Rattle.wire.specs.Made as Made′
 use Rattle.wire.specs.Made.{Made, answerIn, bufferIn}
 use Rattle.wire.specs.Reply.{Reply, gives, refuses, numberIn, valuesIn}
 use Rattle.table.specs.Encode.{words}
-use Rattle.records.proofs.Places.{refusal-numbered}
-use Rattle.runtime.specs.declared.Answer as runtime′
-use Rattle.runtime.specs.declared.Answer.the-variants as made
-use Rattle.runtime.specs.Answer as run-answer
-use Rattle.moves.specs.Answer as moves-answer
-use Rattle.convert.specs.declared.Answer as convert′
-use Rattle.convert.specs.declared.Answer.the-variants as done
-use Rattle.convert.specs.Answer as convert-answer
-use Rattle.writing.specs.declared.Answer as stamped′
-use Rattle.writing.specs.declared.Answer.the-variants as stamped
-use Rattle.writing.specs.Answer as stamped-answer
-use Rattle.restate.specs.declared.Answer as restate′
-use Rattle.restate.specs.declared.Answer.the-variants as restated
-use Rattle.restate.specs.Answer as restate-answer
-use Rattle.krossvil.proofs.Accepting.{Numbered, table-fine, journal-numbered, buffer-kept}
-use Rattle.salvage.specs.declared.Answer as salvage′
-use Rattle.salvage.specs.declared.Answer.the-variants as salvaged
-use Rattle.salvage.specs.Answer as salvage-answer
-use Rattle.krossvil.proofs.Writers.{Gives}
-use Rattle.krossvil.specs.Host.{told, codeOf, answerAfter, bufferAfter}
+use Rattle.wire.proofs.Made.{Owed}
 use Rattle.moves.specs.declared.Judged as judged′
 use Rattle.moves.specs.declared.Judged.the-variants as judged
 use Rattle.moves.specs.declared.Answer as moves′
 use Rattle.moves.specs.declared.Answer.the-variants as reacted
+use Rattle.moves.specs.Answer as moves-answer
+use Rattle.krossvil.proofs.Accepting.{Numbered, table-fine, buffer-kept}
+use Rattle.krossvil.proofs.Writers.{Writer, Tells, WriteOwed, said}
+use Rattle.krossvil.specs.Host.{told, codeOf, answerAfter, madeTold}
 
 -- ---- Where the host is not told 0
 
@@ -42,13 +27,10 @@ unfolding words
 answer-kept (gives values) answer other = absurd (other refl)
 answer-kept (refuses number place) answer other = refl
 
--- No refusal has number 0, of which `buffer-kept` makes that a buffer which is written to is as it was.
-pub run-numbered : (a : runtime′.Answer) → Numbered (run-answer.replyOf a)
-run-numbered (made.Written size) = tt
-run-numbered (made.TableRefused answer) = table-fine answer
-run-numbered made.TooLong = refl
-run-numbered (made.Refused refusal place) = refusal-numbered refusal
-run-numbered made.BufferTooShort = refl
+-- As C calls an entry that writes nothing else.
+pub told-kept : (reply : Reply) (answer : List ℕ) {code : ℕ} {after : List ℕ} → (code ≡ codeOf reply) × (after ≡ answerAfter reply answer) →
+    (code ≡ 0 → ⊥) → _≡_ {A = List (List ℕ)} (after ∷ []) (answer ∷ [])
+told-kept reply answer owed other = ap (λ x. x ∷ []) (owed .1 ∙ answer-kept reply answer (λ e. other (owed .0 ∙ e)))
 
 pub told-numbered : (reply : Reply) (room : ℕ) → Numbered reply → Numbered (told reply room)
 unfolding told
@@ -58,49 +40,35 @@ told-numbered reply room h = go (room <? 4 * length (valuesIn reply))
     go true = refl
     go false = h
 
--- A buffer that is written to, and the answer buffer.
-pub both-kept : (reply : Reply) → Numbered reply → (written buffer answer : List ℕ) →
-    (later : List ℕ) → later ≡ bufferAfter (told reply (length answer)) written buffer → (after : List ℕ) → after ≡ answerAfter (told reply (length answer)) answer →
-    (codeOf (told reply (length answer)) ≡ 0 → ⊥) → _≡_ {A = List (List ℕ)} (later ∷ after ∷ []) (buffer ∷ answer ∷ [])
-both-kept reply h written buffer answer later l after a other =
-    rw (l ∙ buffer-kept (told reply (length answer)) (told-numbered reply (length answer) h) written buffer other, a ∙ answer-kept (told reply (length answer)) answer other) refl
+-- ---- An entry that writes
 
 -- What was made goes into the buffer only with an answer that gives numbers.
-pub made-kept : {A : Type 0} (replyOf : A → Reply) (short : A) (k : ℕ) (m : Made A) → Gives replyOf k m → (buffer : List ℕ) →
-    (numberIn (replyOf (answerIn short m (length buffer))) ≡ 0 → ⊥) → bufferIn m buffer ≡ buffer
+made-kept : (w : Writer) (buffer : List ℕ) → (numberIn (w .replyOf (answerIn (w .short) (w .makes) (length buffer))) ≡ 0 → ⊥) → bufferIn (w .makes) buffer ≡ buffer
 unfolding answerIn bufferIn
-made-kept replyOf short k (Made′.refused a) g buffer other = refl
-made-kept replyOf short k (Made′.made a bytes) (values, few, gave) buffer other = go (length buffer <? length bytes) other
+made-kept w buffer other = go (w .makes) (w .tells) other
   where
-    go : (b : Bool) → (numberIn (replyOf (if b then short else a)) ≡ 0 → ⊥) → (if b then buffer else bytes ++ drop (length bytes) buffer) ≡ buffer
-    go true h = refl
-    go false h = absurd (h (ap numberIn gave))
+    go : (m : Made (w .Answers)) → Tells (w .replyOf) (w .Left) (w .k) m → (numberIn (w .replyOf (answerIn (w .short) m (length buffer))) ≡ 0 → ⊥) →
+        bufferIn m buffer ≡ buffer
+    go (Made′.refused a) t h = refl
+    go (Made′.made a bytes) t h = by-room (length buffer <? length bytes) h
+      where
+        by-room : (b : Bool) → (numberIn (w .replyOf (if b then w .short else a)) ≡ 0 → ⊥) → (if b then buffer else bytes ++ drop (length bytes) buffer) ≡ buffer
+        by-room true f = refl
+        by-room false f = absurd (f (ap numberIn (t .is)))
 
--- ---- The converters, and the reader of stamped journals
+pub entry-kept : (w : Writer) (buffer : List ℕ) {a : w .Answers} {later : List ℕ} → Owed (w .short) (w .makes) a buffer later →
+    (numberIn (w .replyOf a) ≡ 0 → ⊥) → _≡_ {A = List (List ℕ)} (later ∷ []) (buffer ∷ [])
+entry-kept w buffer owed other =
+    ap (λ x. x ∷ []) (owed .1 ∙ made-kept w buffer (λ e. other (ap (λ x. numberIn (w .replyOf x)) (owed .0) ∙ e)))
 
-pub convert-numbered : (a : convert′.Answer) → Numbered (convert-answer.replyOf a)
-convert-numbered (done.Converted changed) = tt
-convert-numbered (done.TableRefused answer) = table-fine answer
-convert-numbered done.BufferTooShort = refl
-
-pub stamped-numbered : (a : stamped′.Answer) → Numbered (stamped-answer.replyOf a)
-stamped-numbered (stamped.Written size) = tt
-stamped-numbered stamped.TooLong = refl
-stamped-numbered (stamped.Refused refusal place) = refusal-numbered refusal
-stamped-numbered stamped.BufferTooShort = refl
-
-pub restated-numbered : (a : restate′.Answer) → Numbered (restate-answer.replyOf a)
-restated-numbered (restated.Written size) = tt
-restated-numbered (restated.Refused checked) = journal-numbered checked
-restated-numbered restated.OldFormTooLong = refl
-restated-numbered restated.BufferTooShort = refl
-
--- ---- Salvage
-
-pub salvage-numbered : (a : salvage′.Answer) → Numbered (salvage-answer.replyOf a)
-salvage-numbered (salvaged.Salvaged kept dropped number place) = tt
-salvage-numbered (salvaged.Refused checked) = journal-numbered checked
-salvage-numbered salvaged.BufferTooShort = refl
+-- And as C calls it: the buffer that it writes to, and the answer buffer.
+pub host-kept : (w : Writer) (buffer answer : List ℕ) {code : ℕ} {after later : List ℕ} → WriteOwed w buffer answer code after later → (code ≡ 0 → ⊥) →
+    _≡_ {A = List (List ℕ)} (later ∷ after ∷ []) (buffer ∷ answer ∷ [])
+host-kept w buffer answer owed other =
+    let reply = madeTold (w .replyOf) (w .short) (w .makes) buffer (length answer) in
+    let refused : codeOf reply ≡ 0 → ⊥ = λ zero. other (owed .0 ∙ zero) in
+    let numbered = told-numbered (w .replyOf (answerIn (w .short) (w .makes) (length buffer))) (length answer) (said w (length buffer) .1) in
+    rw (owed .1 .1 ∙ buffer-kept reply numbered (bufferIn (w .makes) buffer) buffer refused, owed .1 .0 ∙ answer-kept reply answer refused) refl
 
 -- ---- Several moves
 

@@ -2,7 +2,6 @@ pub mod TablePlaces
 pub mod Places
 pub mod Outcomes
 pub mod Writers
-pub mod Lengths
 pub mod Runs
 pub mod Converts
 pub mod Stamps

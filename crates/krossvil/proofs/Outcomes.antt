@@ -1,7 +1,7 @@
 -- What each entry owes the host, whatever the entry.
 use mathlib.Core.Path.{_≡_, refl, ap, _∙_}
 use mathlib.Core.List.{List, [], _∷_, _++_}
-use Prim.Native.Nat.{ℕ, suc, _+_, _*_, _<_, _≤_}
+use Prim.Native.Nat.{ℕ, suc, _+_, _*_, _^_, _<_, _≤_}
 use native.Mathlib.Omega.{arith}
 use borrow.Author.Tests.{lt-ltb, le-ltb}
 use types.Run.{OneOf, miss}
@@ -9,18 +9,13 @@ use denote.Enum.Declared.{tagOf}
 use lib.ListN.{length, getD, take, drop, length-append, length-drop}
 use lib.Seq.{drop-append-add, length-take-le, take-all, take-at, take-suc, drop-drop}
 use Rattle.wire.specs.Encode.{bytes32, placedIn}
-use Rattle.wire.specs.Reply.{Reply, gives, refuses, numberIn, placeIn, valuesIn}
+use Rattle.wire.specs.Reply.{Reply, gives, numberIn, placeIn, valuesIn}
 use Rattle.table.specs.Encode.{words}
 use Rattle.table.proofs.Words.{length-words, words-append}
 use Rattle.journal.specs.declared.Answer as journal′
 use Rattle.journal.specs.declared.Answer.the-variants as checked
 use Rattle.journal.specs.Answer as journal
 use Rattle.journal.proofs.Answer as JournalT
-use Rattle.journal.proofs.Accepted.{judged}
-use Rattle.runtime.specs.declared.Answer as runtime′
-use Rattle.runtime.specs.declared.Answer.the-variants as made
-use Rattle.runtime.specs.Answer as runtime
-use Rattle.runtime.proofs.Answer as RuntimeT
 use Rattle.reaction.specs.declared.Answer as reaction′
 use Rattle.reaction.specs.declared.Answer.the-variants as reacted
 use Rattle.reaction.specs.Answer as reaction
@@ -62,8 +57,8 @@ owed-none reply none n p en ep before code e =
 
 -- `a` is the entry's answer by its contract, with its number and its place.
 module _ {A : Type 0} (replyOf : A → Reply) (right a : A) (is : a ≡ right) (n p : ℕ) (en : n ≡ numberIn (replyOf a)) (ep : p ≡ placeIn (replyOf a)) where
-  pub fits : Fits (replyOf right) → Fits (refuses n p)
-  fits h = record { number = rw (en, is) (h .number); place = rw (ep, is) (h .place) }
+  pub fits : Fits (replyOf right) → (n ≤ 35) × (p < 2 ^ 32)
+  fits h = (rw (en, is) (h .number), rw (ep, is) (h .place))
 
   pub refused : valuesIn (replyOf a) ≡ [] → (before : List ℕ) (code : ℕ) → code ≡ numbered n p → Owed (replyOf right) before code before
   refused none before code e = rw (← is) (owed-none (replyOf a) none n p en ep before code e)
@@ -74,17 +69,6 @@ journal-none (checked.Accepted n) h = absurd (miss (1 ∷ 2 ∷ 3 ∷ []) 0 tt h
 journal-none (checked.TableRefused answer) h = table-none answer
 journal-none checked.TooLong h = refl
 journal-none (checked.Refused refusal place) h = refl
-
--- Acceptance has seven numbers.
-pub few-none : (most : ℕ) → most < 7 → (a : journal′.Answer) → length (valuesIn (journal.replyOf a)) ≤ most → valuesIn (journal.replyOf a) ≡ []
-few-none most low a few = judged a (λ n e. let seven : 7 ≤ most = rw e at few in absurd (omega arith)) (λ refuses other. journal-none a refuses)
-
-pub run-none : (a : runtime′.Answer) → OneOf (1 ∷ 2 ∷ 3 ∷ 4 ∷ []) (tagOf RuntimeT.the-type a) → valuesIn (runtime.replyOf a) ≡ []
-run-none (made.Written size) h = absurd (miss (1 ∷ 2 ∷ 3 ∷ 4 ∷ []) 0 tt h)
-run-none (made.TableRefused answer) h = table-none answer
-run-none made.TooLong h = refl
-run-none (made.Refused refusal place) h = refl
-run-none made.BufferTooShort h = refl
 
 pub reaction-none : (a : reaction′.Answer) → OneOf (1 ∷ 2 ∷ 3 ∷ 4 ∷ 5 ∷ []) (tagOf ReactionT.the-type a) → valuesIn (reaction.replyOf a) ≡ []
 reaction-none (reacted.Reacts time target) h = absurd (miss (1 ∷ 2 ∷ 3 ∷ 4 ∷ 5 ∷ []) 0 tt h)

@@ -8,12 +8,12 @@ use native.Mathlib.Omega.{arith}
 use borrow.Author.Tests.{ltb-false, ltb-true}
 use lib.ListN.{length}
 use Rattle.wire.specs.Choice.{_<?_, _=?_, if_then_else_}
-use Rattle.wire.specs.Made as Made
-use Rattle.wire.specs.Reply.{Reply, numberIn, placeIn, valuesIn}
-use Rattle.wire.proofs.Made.{answerMade, answer-either}
+use Rattle.wire.specs.Reply.{Reply, refuses, valuesIn}
+use Rattle.table.specs.declared.Answer as table′
 use Rattle.table.specs.declared.Table.{Table}
+use Rattle.table.specs.Answer as table
 use Rattle.table.specs.Table.{WellFormed}
-use Rattle.table.specs.Check.{tableAnswer, tableIn}
+use Rattle.table.specs.Check.{tableIn}
 use Rattle.table.proofs.Under.{under-either}
 use Rattle.table.proofs.WellFormed.{well-formed}
 use Rattle.records.specs.declared.Record.{Record}
@@ -22,9 +22,9 @@ use Rattle.records.specs.declared.Refusal.the-variants.{RunsOut, UnknownField, 
 use Rattle.records.specs.declared.Opening.{Opening}
 use Rattle.records.specs.declared.Opening.the-variants as opening
 use Rattle.records.specs.Refusal.{numberOf}
-use Rattle.records.specs.Form.{Form, journal, stimulus, short, longestJournal}
+use Rattle.records.specs.Form.{Form, journal, short, longestJournal}
 use Rattle.records.specs.Reading.{Items, item, done, broken, openingOf, itemsOf}
-use Rattle.records.proofs.Places.{Within, items-within}
+use Rattle.records.proofs.Places.{Within, items-within, refusal-numbered}
 use Rattle.machine.specs.declared.Machine.{Machine}
 use Rattle.machine.specs.declared.Step.{Step}
 use Rattle.machine.specs.declared.Step.the-variants as step
@@ -33,39 +33,43 @@ use Rattle.machine.specs.Walk.{inTable, completed, Walk, ended, stopped, took, 
 use Rattle.journal.specs.Answer as journal′
 use Rattle.journal.specs.Check.{answerOfRun, checkUnder, checkIn, checkOf, checkShortOf}
 use Rattle.journal.specs.declared.Answer.the-variants as checked
-use Rattle.runtime.specs.declared.Answer as runtime′
-use Rattle.runtime.specs.declared.Answer.the-variants as made
-use Rattle.runtime.specs.Answer as runtime
-use Rattle.runtime.specs.Run as run
-use Rattle.runtime.specs.Run.{madeOfRun, madeUnder, runOf}
-use Rattle.runtime.proofs.Lengths.{Short, under-short}
 use Rattle.reaction.specs.declared.Answer.the-variants.{Reacts, TableRefused, HasTimers, UnknownState, UnknownInput, LeavesStates}
 use Rattle.reaction.specs.Answer as reaction
 use Rattle.reaction.specs.Reaction.{firstLeaving, reactionTime, nextSet, forHolds, reactionOf, reactOf}
-use Rattle.krossvil.specs.Small.{Fits, LengthFits}
+use Rattle.krossvil.specs.Small.{Fits}
 use Rattle.krossvil.proofs.TablePlaces.{table-none, table-fits}
+use Rattle.krossvil.proofs.Accepting.{Numbered, table-fine}
 
-pub refusal-small : (x : Refusal) → numberOf x ≤ 35
-refusal-small RunsOut = omega arith
-refusal-small UnknownField = omega arith
-refusal-small Misplaced = omega arith
-refusal-small OutOfRange = omega arith
-refusal-small TimeFalls = omega arith
-refusal-small PastBound = omega arith
-refusal-small WrongPhase = omega arith
-refusal-small Unsettled = omega arith
-refusal-small Differs = omega arith
+-- ---- A refusal
+
+refusal-between : (x : Refusal) → (20 ≤ numberOf x) × (numberOf x ≤ 35)
+refusal-between RunsOut = omega arith
+refusal-between UnknownField = omega arith
+refusal-between Misplaced = omega arith
+refusal-between OutOfRange = omega arith
+refusal-between TimeFalls = omega arith
+refusal-between PastBound = omega arith
+refusal-between WrongPhase = omega arith
+refusal-between Unsettled = omega arith
+refusal-between Differs = omega arith
 
 pub refusal-high : (x : Refusal) → 20 ≤ numberOf x
-refusal-high RunsOut = omega arith
-refusal-high UnknownField = omega arith
-refusal-high Misplaced = omega arith
-refusal-high OutOfRange = omega arith
-refusal-high TimeFalls = omega arith
-refusal-high PastBound = omega arith
-refusal-high WrongPhase = omega arith
-refusal-high Unsettled = omega arith
-refusal-high Differs = omega arith
+refusal-high x = refusal-between x .0
+
+-- It fits, has no numbers, and its number is not 0.
+pub record Refuses (reply : Reply) : Type 0 where
+  pub fits : Fits reply
+  pub none : valuesIn reply ≡ []
+  pub numbered : Numbered reply
+
+pub plain : (number place : ℕ) → number ≤ 35 → (number =? 0) ≡ false → place ≤ 1000000 → Refuses (refuses number place)
+plain number place n some p = record { fits = record { number = n; place = omega arith }; none = refl; numbered = some }
+
+pub of-record : (x : Refusal) (place : ℕ) → place ≤ 1000000 → Refuses (refuses (numberOf x) place)
+of-record x place p = plain (numberOf x) place (refusal-between x .1) (refusal-numbered x) p
+
+pub of-table : (a : table′.Answer) → Fits (table.replyOf a) → Refuses (table.replyOf a)
+of-table a fits = record { fits = fits; none = table-none a; numbered = table-fine a }
 
 -- ---- The walk stops at the place of an item, or where the items break off
 
@@ -121,7 +125,7 @@ checked-fits F few table s =
     answered : (t : Table) (r : RunOverBytes) → RunBy r → Fits (journal′.replyOf (answerOfRun t r))
     answered t (ran input taken last) h = record { number = omega arith; place = omega arith }
     answered t tooLong h = record { number = omega arith; place = omega arith }
-    answered t (refused refusal place) h = record { number = refusal-small refusal; place = omega arith }
+    answered t (refused refusal place) h = of-record refusal place h .fits
 
     under : (t : Table) → Fits (journal′.replyOf (checkUnder F t s))
     under t = answered t (runOver F t s) (run-by F few t s)
@@ -131,29 +135,6 @@ journal-fits table s = checked-fits journal (omega arith) table s
 
 pub short-fits : (table s : List ℕ) → Fits (journal′.replyOf (checkShortOf table s))
 short-fits table s = checked-fits short (omega arith) table s
-
--- A journal's length fits too.
-abbrev RunFits : runtime′.Answer → Type 0
-RunFits a = LengthFits (runtime.replyOf a)
-
-pub small : (reply : Reply) → numberIn reply ≤ 35 → placeIn reply ≤ 1000000 → valuesIn reply ≡ [] → LengthFits reply
-small reply n p none = (record { number = n; place = omega arith }, rw none (omega arith), rw none (omega arith))
-
-made-fits : (t : Table) (s : List ℕ) → RunFits (answerMade (madeUnder t s))
-unfolding madeOfRun
-made-fits t s = go (runOver stimulus t s) (run-by stimulus (omega arith) t s) (under-short t s)
-  where
-    go : (r : RunOverBytes) → RunBy r → Short (madeOfRun r) → RunFits (answerMade (madeOfRun r))
-    go (ran input taken last) h short = (record { number = omega arith; place = omega arith }, omega arith, omega arith)
-    go tooLong h short = small (runtime.replyOf made.TooLong) (omega arith) (omega arith) refl
-    go (refused refusal place) h short = small (runtime.replyOf (made.Refused refusal place)) (refusal-small refusal) h refl
-
-pub run-fits : (table s : List ℕ) (room : ℕ) (a : runtime′.Answer) → a ≡ run.answerOf (runOf table s) room → RunFits a
-unfolding runOf
-run-fits table s room a is =
-    rw is (answer-either RunFits made.BufferTooShort (small (runtime.replyOf made.BufferTooShort) (omega arith) (omega arith) refl) (runOf table s)
-    (under-either (λ x. Made.refused (made.TableRefused x)) (λ t. madeUnder t s) table (λ m. RunFits (answerMade m)) (λ e. made-fits (tableIn table) s)
-    (let none = table-none (tableAnswer table) in (table-fits false table, rw none (omega arith), rw none (omega arith)))) room)
 
 pub reaction-fits : (table : List ℕ) (P A : ℕ) → Fits (reaction.replyOf (reactOf table P A))
 unfolding reactOf forHolds reactionOf

@@ -10,30 +10,27 @@ use denote.Enum.Declared.{tagOf}
 use lib.ListN.{length}
 use Rattle.wire.specs.Choice.{_<?_, if_then_else_}
 use Rattle.wire.specs.Made as made
-use Rattle.wire.specs.Made.{answerIn, bufferIn}
-use Rattle.wire.specs.Reply.{valuesIn}
+use Rattle.wire.specs.Made.{Made}
 use Rattle.records.specs.declared.Record.{Record}
 use Rattle.records.specs.declared.Opening.{Opening}
 use Rattle.records.specs.declared.Opening.the-variants as opening
 use Rattle.records.specs.Form.{stamped, longestStamped}
 use Rattle.records.specs.Reading.{Items, item, done, broken, anyRecord, openingOf, itemsOf}
 use Rattle.records.proofs.Places.{Within, items-within}
-use Rattle.writing.specs.declared.Answer.{Answer}
-use Rattle.writing.specs.declared.Answer.the-variants.{Written, TooLong, Refused, BufferTooShort}
-use Rattle.writing.specs.Answer.{replyOf}
+use Rattle.stamped.specs.declared.Answer.{Answer}
+use Rattle.stamped.specs.declared.Answer.the-variants.{TooLong, BufferTooShort}
+use Rattle.stamped.specs.Answer.{replyOf}
 use Rattle.stamped.specs.Stamped.{Listed, listed, stopped, before, listOf, madeOfRecords, readOpened, readOf}
-use Rattle.writing.proofs.Answer as AnswerT
+use Rattle.stamped.proofs.Answer as AnswerT
 use Rattle.stamped.proofs.Lengths.{Short, read-short}
-use Rattle.krossvil.specs.Small.{LengthFits}
-use Rattle.krossvil.proofs.Places.{refusal-small, small}
-use Rattle.krossvil.proofs.Writers.{Writes, Gives}
-use Rattle.krossvil.proofs.Lengths.{TellsLength, length-gives, length-writes, length-fits}
+use Rattle.krossvil.proofs.Places.{plain, of-record}
+use Rattle.krossvil.proofs.Writers.{Writer, writer, Tells, Small, one-number, one-small}
 
-pub stamped-none : (a : Answer) → OneOf (1 ∷ 2 ∷ 3 ∷ []) (tagOf AnswerT.the-type a) → valuesIn (replyOf a) ≡ []
-stamped-none (Written size) h = absurd (miss (1 ∷ 2 ∷ 3 ∷ []) 0 tt h)
-stamped-none TooLong h = refl
-stamped-none (Refused refusal place) h = refl
-stamped-none BufferTooShort h = refl
+abbrev pub Left : Answer → Type 0
+Left a = OneOf (1 ∷ 2 ∷ 3 ∷ []) (tagOf AnswerT.the-type a)
+
+abbrev pub Says : Made Answer → Type 0
+Says m = Tells replyOf Left 1 m × Small replyOf m
 
 -- ---- Where the list stops
 
@@ -53,30 +50,27 @@ list-by limit (broken refusal place) w = w .1
 
 -- ---- What is told
 
-tells : (s : List ℕ) → TellsLength replyOf (readOf s)
+pub says : (s : List ℕ) → Says (readOf s)
 unfolding readOf readOpened madeOfRecords itemsOf
-tells s = sized (longestStamped <? length s) refl (read-short s)
+says s = sized (longestStamped <? length s) refl (read-short s)
   where
-    of-list : (input : ℕ) (l : Listed) → StopsBy 1000000 l → Short (madeOfRecords input l) → TellsLength replyOf (madeOfRecords input l)
-    of-list input (listed rs) h few = (refl, omega (arith, few))
-    of-list input (stopped refusal place) h few = small (replyOf (Refused refusal place)) (refusal-small refusal) h refl
+    of-list : (input : ℕ) (l : Listed) → StopsBy 1000000 l → Short (madeOfRecords input l) → Says (madeOfRecords input l)
+    of-list input (listed rs) h few = (one-number _ refl (miss (1 ∷ 2 ∷ 3 ∷ []) 0 tt), one-small _ (omega (arith, few)))
+    of-list input (stopped refusal place) h few = (of-record refusal place h, tt)
 
-    of-opening : length s ≤ longestStamped → (o : Opening) → Short (readOpened s o) → TellsLength replyOf (readOpened s o)
-    of-opening short (opening.Refused refusal) few = small (replyOf (Refused refusal 0)) (refusal-small refusal) (omega arith) refl
+    of-opening : length s ≤ longestStamped → (o : Opening) → Short (readOpened s o) → Says (readOpened s o)
+    of-opening short (opening.Refused refusal) few = (of-record refusal 0 (omega arith), tt)
     of-opening short (opening.Input input) few =
         let within = items-within stamped anyRecord s 1000000 (suc (length s)) 4 0 (omega arith) in
         of-list input (listOf (itemsOf stamped anyRecord s)) (list-by 1000000 (itemsOf stamped anyRecord s) within) few
 
     sized : (b : Bool) → (longestStamped <? length s) ≡ b → Short (if b then made.refused TooLong else readOpened s (openingOf stamped 256 s)) →
-        TellsLength replyOf (if b then made.refused TooLong else readOpened s (openingOf stamped 256 s))
-    sized true h few = small (replyOf TooLong) (omega arith) (omega arith) refl
+        Says (if b then made.refused TooLong else readOpened s (openingOf stamped 256 s))
+    sized true h few = (plain 19 0 (omega arith) refl (omega arith), tt)
     sized false h few = of-opening (ltb-false longestStamped (length s) h) (openingOf stamped 256 s) few
 
-pub stamped-gives : (s : List ℕ) → Gives replyOf 1 (readOf s)
-stamped-gives s = length-gives replyOf (readOf s) (tells s)
+abbrev pub stamped-writer : (s : List ℕ) → Writer
+stamped-writer s = writer replyOf BufferTooShort refl Left 1 (readOf s) (says s .0)
 
-pub stamped-writes : (s : List ℕ) → Writes 1 (λ room. replyOf (answerIn BufferTooShort (readOf s) room)) (bufferIn (readOf s))
-stamped-writes s = length-writes replyOf BufferTooShort refl (readOf s) (tells s)
-
-pub stamped-fits : (s : List ℕ) (room : ℕ) (a : Answer) → a ≡ answerIn BufferTooShort (readOf s) room → LengthFits (replyOf a)
-stamped-fits s room a is = length-fits replyOf BufferTooShort refl (readOf s) (tells s) room a is
+pub stamped-small : (s : List ℕ) → Small replyOf (readOf s)
+stamped-small s = says s .1

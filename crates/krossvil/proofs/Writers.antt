@@ -1,29 +1,21 @@
 -- What an entry owes the host that writes to a buffer beside the answer.
 use mathlib.Core.Path.{_≡_, refl, sym, ap, _∙_}
-use mathlib.Core.List.{List, []}
+use mathlib.Core.List.{List, [], _∷_, _++_, append-nil}
 use mathlib.Core.Bool.{Bool, true, false}
-use Prim.Native.Nat.{ℕ, _*_, _<_, _≤_}
+use Prim.Native.Nat.{ℕ, zero, suc, _*_, _^_, _<_, _≤_}
 use native.Mathlib.Omega.{arith}
-use borrow.Author.Tests.{lt-ltb, le-ltb, ltb-true}
-use lib.ListN.{length}
+use borrow.Author.Tests.{lt-ltb, le-ltb, ltb-true, ltb-false}
+use lib.ListN.{length, getD, take, drop}
+use lib.Seq.{take-length, drop-length}
 use Rattle.wire.specs.Choice.{_<?_, _=?_, if_then_else_}
 use Rattle.wire.specs.Made.{Made, refused, made, answerIn, bufferIn}
 use Rattle.wire.specs.Reply.{Reply, gives, refuses, numberIn, placeIn, valuesIn}
-use Rattle.krossvil.specs.Host.{told, codeOf, answerAfter, bufferAfter}
+use Rattle.wire.proofs.Made as made-proofs
+use Rattle.krossvil.specs.Host.{told, numbered, codeOf, answerAfter, bufferAfter, madeTold, madeBuffer}
+use Rattle.krossvil.specs.Small.{Fits, roomBeside}
+use Rattle.krossvil.proofs.Accepting.{Numbered}
+use Rattle.krossvil.proofs.Places.{Refuses, plain}
 use Rattle.krossvil.proofs.Outcomes.{Owed, owed-none, told-fits}
-
--- The reply with room for so many bytes, and what becomes of the buffer: a refusal whatever the room, or bytes, for which 30 comes
--- last, with k numbers.
-pub data Writes (k : ℕ) (replyIn : ℕ → Reply) (written : List ℕ → List ℕ) : Type 0 where
-  never : (reply : Reply) → ((room : ℕ) → replyIn room ≡ reply) → ((buffer : List ℕ) → written buffer ≡ buffer) → Writes k replyIn written
-  makes : (size : ℕ) (values : List ℕ) → length values ≡ k → ((room : ℕ) → replyIn room ≡ (if room <? size then refuses 30 0 else gives values)) →
-      ((buffer : List ℕ) → length buffer < size → written buffer ≡ buffer) → Writes k replyIn written
-
--- The code, the answer buffer and the buffer that is written to.
-abbrev pub WriteOwed : (ℕ → Reply) → (List ℕ → List ℕ) → List ℕ → List ℕ → ℕ → List ℕ → List ℕ → Type 0
-WriteOwed replyIn written buffer before code after later =
-    let reply = told (replyIn (length buffer)) (length before) in
-    (code ≡ codeOf reply) × ((after ≡ answerAfter reply before) × (later ≡ bufferAfter reply (written buffer) buffer))
 
 -- ---- A buffer after a reply
 
@@ -43,83 +35,173 @@ pub on-30 : (buffer written : List ℕ) → buffer ≡ bufferAfter (refuses 30 0
 unfolding bufferAfter
 on-30 buffer written = refl
 
--- ---- What is told of a success that may lack room
-
--- Without room for the numbers it is 30, whether the bytes have room or not.
+-- What is told of a success without room for its numbers is 30, whether the bytes have room or not.
 pub told-short : (values : List ℕ) (room : ℕ) → room < 4 * length values → (full : Bool) → told (if full then refuses 30 0 else gives values) room ≡ refuses 30 0
 unfolding told
 told-short values room h true = rw (le-ltb room 0 (omega arith)) refl
 told-short values room h false = rw (lt-ltb room (4 * length values) h) refl
 
-module _ (k : ℕ) (replyIn : ℕ → Reply) (written : List ℕ → List ℕ) (answer : List ℕ) where
-  abbrev Told : ℕ → Reply
-  Told room = told (replyIn room) (length answer)
+-- ---- An entry that writes
 
-  -- With room for the numbers the buffer goes by the reply.
-  goes-by : Writes k replyIn written → 4 * k ≤ length answer → (buffer : List ℕ) → written buffer ≡ bufferAfter (Told (length buffer)) (written buffer) buffer
-  goes-by (never reply always same) enough buffer = same buffer ∙ no-change _ buffer (written buffer) (same buffer)
-  goes-by (makes size values few replies same) enough buffer = rw (replies (length buffer)) (go (length buffer <? size) refl)
+-- With bytes come k numbers, in an answer that is none of those that a `let .. else` leaves.
+pub record Gives {A : Type 0} (replyOf : A → Reply) (Left : A → Type 0) (k : ℕ) (a : A) : Type 0 where
+  pub values : List ℕ
+  pub count : length values ≡ k
+  pub is : replyOf a ≡ gives values
+  pub kept : Left a → ⊥
+
+abbrev pub Tells : {A : Type 0} → (A → Reply) → (A → Type 0) → ℕ → Made A → Type 0
+Tells replyOf Left k (refused a) = Refuses (replyOf a)
+Tells replyOf Left k (made a bytes) = Gives replyOf Left k a
+
+pub record Writer : Type 1 where
+  pub Answers : Type 0
+  pub replyOf : Answers → Reply
+  pub short : Answers
+  pub thirty : replyOf short ≡ refuses 30 0
+  pub Left : Answers → Type 0
+  pub k : ℕ
+  pub makes : Made Answers
+  pub tells : Tells replyOf Left k makes
+
+abbrev pub writer : {A : Type 0} (replyOf : A → Reply) (short : A) → replyOf short ≡ refuses 30 0 → (Left : A → Type 0) (k : ℕ) (m : Made A) → Tells replyOf Left k m → Writer
+writer {A} replyOf short thirty Left k m tells =
+    record { Answers = A; replyOf = replyOf; short = short; thirty = thirty; Left = Left; k = k; makes = m; tells = tells }
+
+-- The numbers that come with bytes fit into 32 bits.
+abbrev pub Small : {A : Type 0} → (A → Reply) → Made A → Type 0
+Small replyOf (refused a) = Unit
+Small replyOf (made a bytes) = (i : ℕ) → getD (valuesIn (replyOf a)) i 0 < 2 ^ 32
+
+-- ---- What is told, and the buffer, where the answer lacks room for the numbers and where it has it
+
+-- With `room` bytes of the buffer lent.
+abbrev Home : (w : Writer) → Made (w .Answers) → (buffer answer : List ℕ) (room : ℕ) → Type 0
+Home w m buffer answer room =
+    (told (w .replyOf (answerIn (w .short) m (length (take room buffer)))) (length answer) ≡ madeTold (w .replyOf) (w .short) m buffer (length answer))
+    × (bufferIn m (take room buffer) ++ drop room buffer ≡ madeBuffer (w .replyOf) (w .short) m buffer (length answer))
+
+nothing-lent : (bytes buffer : List ℕ) → (if 0 <? length bytes then [] else bytes ++ drop (length bytes) []) ++ buffer ≡ buffer
+nothing-lent [] buffer = refl
+nothing-lent (x ∷ bytes) buffer = rw (lt-ltb 0 (length (x ∷ bytes)) (omega arith)) refl
+
+module _ (w : Writer) (buffer answer : List ℕ) where
+  told-30 : (a : w .Answers) → Gives (w .replyOf) (w .Left) (w .k) a → length answer < 4 * w .k → (full : Bool) →
+      told (w .replyOf (if full then w .short else a)) (length answer) ≡ refuses 30 0
+  told-30 a g low true = rw (w .thirty) (told-short (g .values) (length answer) (rw (g .count) low) true)
+  told-30 a g low false = rw (g .is) (told-short (g .values) (length answer) (rw (g .count) low) false)
+
+  short-home : (m : Made (w .Answers)) → Tells (w .replyOf) (w .Left) (w .k) m → length answer < 4 * w .k → Home w m buffer answer 0
+  unfolding answerIn bufferIn
+  short-home (refused a) t low = (refl, no-change _ buffer buffer refl)
+  short-home (made a bytes) t low =
+      let thirty = told-30 a t low in (
+        thirty (0 <? length bytes) ∙ sym (thirty (length buffer <? length bytes)),
+        nothing-lent bytes buffer ∙ on-30 buffer (bufferIn (made a bytes) buffer)
+            ∙ ap (λ reply. bufferAfter reply (bufferIn (made a bytes) buffer) buffer) (sym (thirty (length buffer <? length bytes))),
+      )
+
+  long-home : (m : Made (w .Answers)) → Tells (w .replyOf) (w .Left) (w .k) m → 4 * w .k ≤ length answer →
+      bufferIn m buffer ≡ madeBuffer (w .replyOf) (w .short) m buffer (length answer)
+  unfolding answerIn bufferIn
+  long-home (refused a) t enough = no-change _ buffer buffer refl
+  long-home (made a bytes) t enough = go (length buffer <? length bytes)
     where
-      go : (full : Bool) → (length buffer <? size) ≡ full →
-          written buffer ≡ bufferAfter (told (if full then refuses 30 0 else gives values) (length answer)) (written buffer) buffer
-      go true e = let kept = same buffer (ltb-true (length buffer) size e) in kept ∙ no-change _ buffer (written buffer) kept
-      go false e = rw (told-fits (gives values) (length answer) (rw few enough)) (on-success values buffer (written buffer))
+      go : (full : Bool) → (if full then buffer else bytes ++ drop (length bytes) buffer) ≡
+          bufferAfter (told (w .replyOf (if full then w .short else a)) (length answer)) (if full then buffer else bytes ++ drop (length bytes) buffer) buffer
+      go true = no-change _ buffer buffer refl
+      go false = rw (t .is, told-fits (gives (t .values)) (length answer) (rw (t .count) enough)) (on-success (t .values) buffer _)
 
-  pub long-owed : Writes k replyIn written → 4 * k ≤ length answer → (buffer later : List ℕ) → later ≡ written buffer →
-      (reply : Reply) → reply ≡ replyIn (length buffer) → (code : ℕ) (after : List ℕ) → Owed reply answer code after →
-      WriteOwed replyIn written buffer answer code after later
-  long-owed w enough buffer later e reply is code after owed = let o = rw is at owed in (o .0, (o .1, e ∙ goes-by w enough buffer))
+  home : (room : ℕ) → room ≡ roomBeside (length answer) (4 * w .k) (length buffer) → Home w (w .makes) buffer answer room
+  unfolding roomBeside
+  home room lent = go (length answer <? 4 * w .k) refl
+    where
+      go : (b : Bool) → (length answer <? 4 * w .k) ≡ b → Home w (w .makes) buffer answer room
+      go true e =
+          let none : room ≡ 0 = lent ∙ rw e refl in
+          rw none (short-home (w .makes) (w .tells) (ltb-true (length answer) (4 * w .k) e))
+      go false e =
+          let whole : room ≡ length buffer = lent ∙ rw e refl in
+          rw (whole, take-length buffer, drop-length buffer, append-nil (bufferIn (w .makes) buffer))
+          (refl, long-home (w .makes) (w .tells) (ltb-false (length answer) (4 * w .k) e))
 
-  -- Without room for them the room for the bytes makes no difference, and the buffer is as it was.
-  any-room : Writes k replyIn written → length answer < 4 * k → (buffer : List ℕ) (room : ℕ) →
-      (Told room ≡ Told (length buffer)) × (buffer ≡ bufferAfter (Told (length buffer)) (written buffer) buffer)
-  any-room (never reply always same) short buffer room =
-      (rw (always room, always (length buffer)) refl, no-change _ buffer (written buffer) (same buffer))
-  any-room (makes size values few replies same) short buffer room =
-      let thirty : (other : ℕ) → Told other ≡ refuses 30 0 = λ other. rw (replies other) (told-short values (length answer) (rw few short) (other <? size)) in
-      (thirty room ∙ sym (thirty (length buffer)), rw (thirty (length buffer)) (on-30 buffer (written buffer)))
+-- ---- What the entry owes
 
-  pub short-owed : Writes k replyIn written → length answer < 4 * k → (room : ℕ) (buffer : List ℕ) →
-      (reply : Reply) → reply ≡ replyIn room → (code : ℕ) (after : List ℕ) → Owed reply answer code after →
-      WriteOwed replyIn written buffer answer code after buffer
-  short-owed w short room buffer reply is code after owed =
-      let same = any-room w short buffer room in
-      let told-same = ap (λ x. told x (length answer)) is ∙ same .0 in
-      (owed .0 ∙ ap codeOf told-same, (owed .1 ∙ ap (λ x. answerAfter x answer) told-same, same .1))
+module _ (w : Writer) where
+  -- The code, the answer buffer and the buffer that is written to.
+  abbrev pub WriteOwed : (buffer answer : List ℕ) (code : ℕ) (after later : List ℕ) → Type 0
+  WriteOwed buffer answer code after later =
+      (code ≡ codeOf (madeTold (w .replyOf) (w .short) (w .makes) buffer (length answer)))
+      × ((after ≡ answerAfter (madeTold (w .replyOf) (w .short) (w .makes) buffer (length answer)) answer)
+      × (later ≡ madeBuffer (w .replyOf) (w .short) (w .makes) buffer (length answer)))
 
--- ---- A refusal that has no numbers, whatever the room
+  -- What was turned down beforehand is told so, and no buffer changes.
+  pub turned-down-owed : (x : w .Answers) → w .makes ≡ refused x → (room code : ℕ) → code ≡ codeOf (told (w .replyOf x) room) → (buffer answer : List ℕ) →
+      WriteOwed buffer answer code answer buffer
+  unfolding answerIn bufferIn
+  turned-down-owed x is room code e buffer answer =
+      let down : Refuses (w .replyOf x) = rw is at (w .tells) in
+      let first = told-fits (w .replyOf x) room (rw (down .none) (omega arith)) in
+      let owed = owed-none (w .replyOf x) (down .none) _ _ refl refl answer code (e ∙ ap codeOf first) in
+      rw is (owed .0, (owed .1, no-change _ buffer buffer refl))
 
-pub refused-owed : (replyIn : ℕ → Reply) (written : List ℕ → List ℕ) (buffer answer : List ℕ) (reply : Reply) → replyIn (length buffer) ≡ reply →
-    valuesIn reply ≡ [] → written buffer ≡ buffer → (room code : ℕ) → code ≡ codeOf (told reply room) → WriteOwed replyIn written buffer answer code answer buffer
-refused-owed replyIn written buffer answer reply is none same room code e =
-    let first = told-fits reply room (rw none (omega arith)) in
-    let owed = owed-none reply none (numberIn reply) (placeIn reply) refl refl answer code (e ∙ ap codeOf first) in
-    rw is (owed .0, (owed .1, no-change _ buffer (written buffer) same))
+  -- The answer, with room for so many bytes.
+  module _ (room : ℕ) {a : w .Answers} (is : a ≡ answerIn (w .short) (w .makes) room) where
+    pub left-refuses : w .Left a → Refuses (w .replyOf a)
+    left-refuses left =
+        rw is (made-proofs.answer-either (λ x. w .Left x → Refuses (w .replyOf x)) (w .short)
+        (λ l. rw (w .thirty) (plain 30 0 (omega arith) refl (omega arith))) (w .makes) (go (w .makes) (w .tells)) room (rw is at left))
+      where
+        go : (m : Made (w .Answers)) → Tells (w .replyOf) (w .Left) (w .k) m → w .Left (made-proofs.answerMade m) → Refuses (w .replyOf (made-proofs.answerMade m))
+        go (refused x) t l = t
+        go (made x bytes) t l = absurd (t .kept l)
 
--- ---- What was made
+    pub code-fits : w .Left a → {n p : ℕ} → n ≡ numberIn (w .replyOf a) → p ≡ placeIn (w .replyOf a) → (n ≤ 35) × (p < 2 ^ 32)
+    code-fits left en ep = let f = left-refuses left .fits in (rw en (f .number), rw ep (f .place))
 
-told-made : {A : Type 0} (replyOf : A → Reply) (short a : A) (values : List ℕ) → replyOf short ≡ refuses 30 0 → replyOf a ≡ gives values → (full : Bool) →
-    replyOf (if full then short else a) ≡ (if full then refuses 30 0 else gives values)
-told-made replyOf short a values thirty gave true = thirty
-told-made replyOf short a values thirty gave false = gave
+    pub value-small : Small (w .replyOf) (w .makes) → {b : w .Answers} → a ≡ b → (i : ℕ) → getD (valuesIn (w .replyOf b)) i 0 < 2 ^ 32
+    value-small small same i =
+        rw (← same, is) (made-proofs.answer-either (λ x. getD (valuesIn (w .replyOf x)) i 0 < 2 ^ 32) (w .short) (rw (w .thirty) (omega arith)) (w .makes)
+        (go (w .makes) (w .tells) small) room)
+      where
+        go : (m : Made (w .Answers)) → Tells (w .replyOf) (w .Left) (w .k) m → Small (w .replyOf) m → getD (valuesIn (w .replyOf (made-proofs.answerMade m))) i 0 < 2 ^ 32
+        go (refused x) t s = rw (t .none) (omega arith)
+        go (made x bytes) t s = s i
 
--- With an answer that gives k numbers where there are bytes.
-abbrev pub Gives : {A : Type 0} → (A → Reply) → ℕ → Made A → Type 0
-Gives replyOf k (refused a) = Unit
-Gives replyOf k (made a bytes) = (values : List ℕ) × (length values ≡ k) × (replyOf a ≡ gives values)
+  -- And where only the room beside the answer was lent, of the buffer that comes home.
+  module _ (buffer answer : List ℕ) {room : ℕ} (lent : room ≡ roomBeside (length answer) (4 * w .k) (length buffer))
+      {a : w .Answers} {part : List ℕ} (did : made-proofs.Owed (w .short) (w .makes) a (take room buffer) part) where
+    write-owed : {code : ℕ} {after : List ℕ} → Owed (w .replyOf a) answer code after → WriteOwed buffer answer code after (part ++ drop room buffer)
+    write-owed owed =
+        let h = home w buffer answer room lent in
+        let same = ap (λ x. told (w .replyOf x) (length answer)) (did .0) ∙ h .0 in
+        (owed .0 ∙ ap codeOf same, (owed .1 ∙ ap (λ x. answerAfter x answer) same, ap (λ x. x ++ drop room buffer) (did .1) ∙ h .1))
 
-pub made-writes : {A : Type 0} (replyOf : A → Reply) (short : A) → replyOf short ≡ refuses 30 0 → (k : ℕ) (m : Made A) → Gives replyOf k m →
-    Writes k (λ room. replyOf (answerIn short m room)) (bufferIn m)
-unfolding answerIn bufferIn
-made-writes replyOf short thirty k (refused a) g = never (replyOf a) (λ room. refl) (λ buffer. refl)
-made-writes replyOf short thirty k (made a bytes) (values, few, gave) =
-    makes (length bytes) values few (λ room. told-made replyOf short a values thirty gave (room <? length bytes))
-    (λ buffer h. rw (lt-ltb (length buffer) (length bytes) h) refl)
+    pub refusal-owed : w .Left a → {n p : ℕ} → n ≡ numberIn (w .replyOf a) → p ≡ placeIn (w .replyOf a) → {code : ℕ} → code ≡ numbered n p →
+        WriteOwed buffer answer code answer (part ++ drop room buffer)
+    refusal-owed left en ep e = write-owed (owed-none (w .replyOf a) (left-refuses _ (did .0) left .none) _ _ en ep answer _ e)
 
--- What was turned down is told so, and no buffer changes.
-pub made-refused-owed : {A : Type 0} (replyOf : A → Reply) (short : A) (m : Made A) (x : A) → m ≡ refused x → valuesIn (replyOf x) ≡ [] →
-    (room code : ℕ) → code ≡ codeOf (told (replyOf x) room) → (buffer answer : List ℕ) →
-    WriteOwed (λ room. replyOf (answerIn short m room)) (bufferIn m) buffer answer code answer buffer
-unfolding answerIn bufferIn
-made-refused-owed replyOf short m x is none room code e buffer answer =
-    refused-owed (λ room. replyOf (answerIn short m room)) (bufferIn m) buffer answer (replyOf x) (rw is refl) none (rw is refl) room code e
+    pub success-owed : {b : w .Answers} → a ≡ b → {code : ℕ} {after : List ℕ} → Owed (w .replyOf b) answer code after →
+        WriteOwed buffer answer code after (part ++ drop room buffer)
+    success-owed same owed = write-owed (rw same owed)
+
+  -- ---- Whatever the room
+
+  pub said : (room : ℕ) → Fits (w .replyOf (answerIn (w .short) (w .makes) room)) × Numbered (w .replyOf (answerIn (w .short) (w .makes) room))
+  said room =
+      made-proofs.answer-either (λ x. Fits (w .replyOf x) × Numbered (w .replyOf x)) (w .short) (rw (w .thirty) (record { number = omega arith; place = omega arith }, refl))
+      (w .makes) (go (w .makes) (w .tells)) room
+    where
+      go : (m : Made (w .Answers)) → Tells (w .replyOf) (w .Left) (w .k) m →
+          Fits (w .replyOf (made-proofs.answerMade m)) × Numbered (w .replyOf (made-proofs.answerMade m))
+      go (refused x) t = (t .fits, t .numbered)
+      go (made x bytes) t = rw (t .is) (record { number = omega arith; place = omega arith }, tt)
+
+-- ---- An answer that has one number
+
+pub one-number : {A : Type 0} {replyOf : A → Reply} {Left : A → Type 0} {a : A} (value : ℕ) → replyOf a ≡ gives (value ∷ []) → (Left a → ⊥) → Gives replyOf Left 1 a
+one-number value is kept = record { values = value ∷ []; count = refl; is = is; kept = kept }
+
+pub one-small : (value : ℕ) → value < 2 ^ 32 → (i : ℕ) → getD (value ∷ []) i 0 < 2 ^ 32
+one-small value h zero = h
+one-small value h (suc i) = omega arith

@@ -3,7 +3,7 @@ use mathlib.Core.List.{List, [], _++_}
 use Prim.Native.Nat.{ℕ, _+_, _*_, _^_}
 use lib.ListN.{length, drop, getD}
 use Rattle.wire.specs.Choice.{_<?_, _≤?_, _=?_, if_then_else_}
-use Rattle.wire.specs.Made.{answerIn, bufferIn}
+use Rattle.wire.specs.Made.{Made, answerIn, bufferIn}
 use Rattle.wire.specs.Reply.{Reply, gives, refuses, numberIn, placeIn, valuesIn}
 use Rattle.table.specs.Check.{tableIn}
 use Rattle.table.specs.Encode.{words}
@@ -11,18 +11,19 @@ use Rattle.records.specs.Form as form
 use Rattle.machine.specs.Walk.{runOver}
 use Rattle.journal.specs.Answer as journal
 use Rattle.journal.specs.Check.{checkOf, checkShortOf}
+use Rattle.runtime.specs.declared.Answer.the-variants as ran
 use Rattle.runtime.specs.Answer as runtime
-use Rattle.runtime.specs.Run.{runOf, answerOf}
+use Rattle.runtime.specs.Run.{runOf}
 use Rattle.salvage.specs.declared.Answer.the-variants as salvaged
 use Rattle.salvage.specs.Answer as salvage
 use Rattle.salvage.specs.Salvage.{salvageOf}
-use Rattle.convert.specs.declared.Answer.the-variants.{BufferTooShort}
+use Rattle.convert.specs.declared.Answer.the-variants as converted
 use Rattle.convert.specs.Answer as convert
-use Rattle.convert.specs.Convert as convert′
-use Rattle.writing.specs.declared.Answer.the-variants as stamped′
-use Rattle.writing.specs.Answer as stamped
+use Rattle.convert.specs.Convert.{madeOf}
+use Rattle.stamped.specs.declared.Answer.the-variants as read
+use Rattle.stamped.specs.Answer as stamped
 use Rattle.stamped.specs.Stamped.{readOf}
-use Rattle.restate.specs.declared.Answer.the-variants as restate′
+use Rattle.restate.specs.declared.Answer.the-variants as restated
 use Rattle.restate.specs.Answer as restate
 use Rattle.restate.specs.Restate.{shortenOf, lengthenOf}
 use Rattle.tally.specs.Tally.{tallyIn}
@@ -56,6 +57,13 @@ answerAfter reply answer = words (valuesIn reply) ++ drop (4 * length (valuesIn 
 unfoldable pub bufferAfter : Reply → List ℕ → List ℕ → List ℕ
 bufferAfter reply written buffer = if numberIn reply =? 0 then written else buffer
 
+-- What the host is told of what was made for a buffer, and what is in the buffer then.
+abbrev pub madeTold : {A : Type 0} → (A → Reply) → (short : A) → Made A → List ℕ → ℕ → Reply
+madeTold replyOf short m buffer room = told (replyOf (answerIn short m (length buffer))) room
+
+abbrev pub madeBuffer : {A : Type 0} → (A → Reply) → (short : A) → Made A → List ℕ → ℕ → List ℕ
+madeBuffer replyOf short m buffer room = bufferAfter (madeTold replyOf short m buffer room) (bufferIn m buffer) buffer
+
 -- ---- What each entry tells. The table check has no numbers.
 
 abbrev pub journalTold : List ℕ → List ℕ → ℕ → Reply
@@ -66,10 +74,10 @@ shortTold table records room = told (journal.replyOf (checkShortOf table records
 
 -- With a journal buffer and room for the answer.
 abbrev pub runTold : List ℕ → List ℕ → List ℕ → ℕ → Reply
-runTold table stimulus buffer room = told (runtime.replyOf (answerOf (runOf table stimulus) (length buffer))) room
+runTold table stimulus = madeTold runtime.replyOf ran.BufferTooShort (runOf table stimulus)
 
 abbrev pub runJournal : List ℕ → List ℕ → List ℕ → ℕ → List ℕ
-runJournal table stimulus buffer room = bufferAfter (runTold table stimulus buffer room) (bufferIn (runOf table stimulus) buffer) buffer
+runJournal table stimulus = madeBuffer runtime.replyOf ran.BufferTooShort (runOf table stimulus)
 
 abbrev pub reactionTold : List ℕ → ℕ → ℕ → ℕ → Reply
 reactionTold table P A room = told (reaction.replyOf (reactOf table P A)) room
@@ -85,37 +93,22 @@ abbrev pub movesPath : List ℕ → (P A n sums : ℕ) → (path : List ℕ) →
 movesPath table P A n sums path room = bufferAfter (movesTold table P A n sums (length path) room) (pathAfter table P A n sums path) path
 
 abbrev pub convertTold : List ℕ → List ℕ → ℕ → Reply
-convertTold table buffer room = told (convert.replyOf (answerIn BufferTooShort (convert′.madeOf table) (length buffer))) room
-
-abbrev pub convertTable : List ℕ → List ℕ → ℕ → List ℕ
-convertTable table buffer room = bufferAfter (convertTold table buffer room) (bufferIn (convert′.madeOf table) buffer) buffer
+convertTold table = madeTold convert.replyOf converted.BufferTooShort (madeOf table)
 
 abbrev pub stampedTold : List ℕ → List ℕ → ℕ → Reply
-stampedTold bytes buffer room = told (stamped.replyOf (answerIn stamped′.BufferTooShort (readOf bytes) (length buffer))) room
-
-abbrev pub stampedJournal : List ℕ → List ℕ → ℕ → List ℕ
-stampedJournal bytes buffer room = bufferAfter (stampedTold bytes buffer room) (bufferIn (readOf bytes) buffer) buffer
+stampedTold bytes = madeTold stamped.replyOf read.BufferTooShort (readOf bytes)
 
 abbrev pub shortenTold : List ℕ → List ℕ → List ℕ → ℕ → Reply
-shortenTold table bytes buffer room = told (restate.replyOf (answerIn restate′.BufferTooShort (shortenOf table bytes) (length buffer))) room
-
-abbrev pub shortenedJournal : List ℕ → List ℕ → List ℕ → ℕ → List ℕ
-shortenedJournal table bytes buffer room = bufferAfter (shortenTold table bytes buffer room) (bufferIn (shortenOf table bytes) buffer) buffer
+shortenTold table bytes = madeTold restate.replyOf restated.BufferTooShort (shortenOf table bytes)
 
 abbrev pub lengthenTold : List ℕ → List ℕ → List ℕ → ℕ → Reply
-lengthenTold table bytes buffer room = told (restate.replyOf (answerIn restate′.BufferTooShort (lengthenOf table bytes) (length buffer))) room
-
-abbrev pub lengthenedJournal : List ℕ → List ℕ → List ℕ → ℕ → List ℕ
-lengthenedJournal table bytes buffer room = bufferAfter (lengthenTold table bytes buffer room) (bufferIn (lengthenOf table bytes) buffer) buffer
+lengthenTold table bytes = madeTold restate.replyOf restated.BufferTooShort (lengthenOf table bytes)
 
 abbrev pub tightTold : List ℕ → ℕ → ℕ → ℕ → Reply
 tightTold table P A room = told (tight.replyOf (reactTightOf table P A)) room
 
 abbrev pub salvageTold : List ℕ → List ℕ → List ℕ → ℕ → Reply
-salvageTold table records buffer room = told (salvage.replyOf (answerIn salvaged.BufferTooShort (salvageOf table records) (length buffer))) room
-
-abbrev pub salvageJournal : List ℕ → List ℕ → List ℕ → ℕ → List ℕ
-salvageJournal table records buffer room = bufferAfter (salvageTold table records buffer room) (bufferIn (salvageOf table records) buffer) buffer
+salvageTold table records = madeTold salvage.replyOf salvaged.BufferTooShort (salvageOf table records)
 
 -- ---- The report, which the host keeps. It has no answer buffer.
 

@@ -9,9 +9,7 @@ use Rattle.krossvil.proofs.checking.krossvil_check_short.Statement.{sta
 use Rattle.krossvil.proofs.checking.krossvil_check_short.Tie as tie
 
 code-requires : tie.Need-code-requires
-code-requires c κs =
-    let f = fits replyOf _ _ (c .before .before .before .check .ensures) _ _ (c .before .number .ensures) (c .place .ensures) (short-fits _ _) in
-    (f .number, f .place)
+code-requires c κs = fits replyOf _ _ (c .before .before .before .check .ensures) _ _ (c .before .number .ensures) (c .place .ensures) (short-fits _ _)
 
 returns : tie.Need-returns
 returns c =

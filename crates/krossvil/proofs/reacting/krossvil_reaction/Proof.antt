@@ -8,9 +8,7 @@ use Rattle.krossvil.proofs.reacting.krossvil_reaction.Statement.{statem
 use Rattle.krossvil.proofs.reacting.krossvil_reaction.Tie as tie
 
 code-requires : tie.Need-code-requires
-code-requires c κs =
-    let f = fits replyOf _ _ (c .before .before .before .react .ensures) _ _ (c .before .number .ensures) (c .place .ensures) (reaction-fits _ _ _) in
-    (f .number, f .place)
+code-requires c κs = fits replyOf _ _ (c .before .before .before .react .ensures) _ _ (c .before .number .ensures) (c .place .ensures) (reaction-fits _ _ _)
 
 returns : tie.Need-returns
 returns c =

@@ -9,9 +9,7 @@ use Rattle.krossvil.proofs.reacting.krossvil_reaction_moves.Statement.{
 use Rattle.krossvil.proofs.reacting.krossvil_reaction_moves.Tie as tie
 
 code-requires : tie.Need-code-requires
-code-requires c κs =
-    let f = fits refusalOf _ _ (c .before .before .before .judge .ensures) _ _ (c .before .number .ensures) (c .place .ensures) (judge-fits _ _ _ _ _ _) in
-    (f .number, f .place)
+code-requires c κs = fits refusalOf _ _ (c .before .before .before .judge .ensures) _ _ (c .before .number .ensures) (c .place .ensures) (judge-fits _ _ _ _ _ _)
 
 returns : tie.Need-returns
 returns c =

@@ -10,8 +10,7 @@ use Rattle.krossvil.proofs.reacting.krossvil_reaction_tight.Tie as tie
 code-requires : tie.Need-code-requires
 code-requires c κs =
     let reacts = c .before .before .before .before .react .ensures in
-    let f = fits replyOf _ _ reacts _ _ (c .before .number .ensures) (c .place .ensures) (tight-fits _ _ _) in
-    (f .number, f .place)
+    fits replyOf _ _ reacts _ _ (c .before .number .ensures) (c .place .ensures) (tight-fits _ _ _)
 
 returns : tie.Need-returns
 returns c =

@@ -1,15 +1,16 @@
--- The check's refusals are passed up. The buffer is lent only where the number has room.
-use mathlib.Core.Path.{_≡_, ap}
+-- The check's refusals are passed up. Of the buffer only the room beside the answer is lent.
+use mathlib.Core.Path.{_≡_, sym}
+use native.Mathlib.Omega.{arith}
+use lib.Seq.{length-take-le}
 use Rattle.wire.specs.Encode.{Bytes}
 use Rattle.table.specs.Check.{tableIn}
 use Rattle.records.specs.Form.{journal, short}
 use Rattle.machine.specs.Walk.{runOver}
 use Rattle.journal.specs.Accepted.{AcceptedIn}
-use Rattle.restate.specs.Answer.{replyOf}
 use Rattle.restate.specs.Restate.{restated, shortenOf}
-use Rattle.krossvil.proofs.Writers.{short-owed, long-owed}
-use Rattle.krossvil.proofs.Restates.{shorten-writes, shorten-fits, shorten-accepted, shorten-passed, shorten-under}
-use native.Mathlib.Omega.{arith}
+use Rattle.krossvil.proofs.Accepting.{accepted-zero}
+use Rattle.krossvil.proofs.Writers.{code-fits, value-small, refusal-owed, success-owed}
+use Rattle.krossvil.proofs.Restates.{shorten-writer, shorten-small, shorten-passed, shorten-under}
 use borrow.Author.Needs.{needs}
 use Rattle.krossvil.proofs.restating.krossvil_shorten.Statement.{statement}
 use Rattle.krossvil.proofs.restating.krossvil_shorten.Tie as tie
@@ -26,7 +27,7 @@ module _ (c : tie.Else1) where
   start = c .before .before .before .before .before .before .before .before
 
   went : AcceptedIn journal (start .args .table .now) (start .args .journal .now)
-  went = shorten-accepted (start .args .table .now) (start .args .journal .now) _ (c .before .before .krossvil-check-journal .ensures .0) (omega arith)
+  went = accepted-zero journal (start .args .table .now) (start .args .journal .now) 28 _ (c .before .before .krossvil-check-journal .ensures .0) (omega arith)
 
   same : restated short (runOver journal (tableIn (start .args .table .now)) (start .args .journal .now)) ≡ shortenOf (start .args .table .now) (start .args .journal .now)
   same = shorten-under (start .args .table .now) (start .args .journal .now) went
@@ -34,44 +35,40 @@ module _ (c : tie.Else1) where
   bytes : Bytes (start .args .journal .now)
   bytes = λ k. omega (arith, c .before .before .before .before .before .before .shared-slice-known2 .given k)
 
+slice-aggregate-shorten-accepted : tie.Need-slice-aggregate-shorten-accepted
+slice-aggregate-shorten-accepted c = sym (length-take-le _ _ (c .before .room-beside .ensures .1))
+
 shorten-accepted-requires : tie.Need-shorten-accepted-requires
 shorten-accepted-requires c κs = went (c .before .before)
 
-tell-restated-requires : tie.Need-tell-restated-requires
-tell-restated-requires c κs =
-    let accepted = c .before .before .before .before .before in
-    shorten-fits (start accepted .args .table .now) (start accepted .args .journal .now) (bytes accepted) _ _ (rw (same accepted) at (c .before .before .shorten-accepted .ensures .0))
+code-requires : tie.Need-code-requires
+code-requires c κs =
+    let wrote = c .before .before .before .before .before in
+    code-fits (shorten-writer _ _) _ (rw (same (wrote .before .before .before)) at (wrote .shorten-accepted .ensures .0)) (c .before .before .match .keys2) (c .before .number .ensures) (c .place .ensures)
 
 returns-2 : tie.Need-returns-2
 returns-2 c =
-    let told = c .before .before in
-    let wrote = told .before .before .before in
+    let wrote = c .before .before .before .before .before .before in
     let accepted = wrote .before .before .before in
-    short-owed _ _ _ (start accepted .args .answer .now) (shorten-writes (start accepted .args .table .now) (start accepted .args .journal .now))
-    (wrote .before .before .if2 .taken) _ (start accepted .args .shortened .now) _
-    (ap replyOf (rw (same accepted) at (wrote .shorten-accepted .ensures .0))) _ _ (told .tell-restated .ensures)
+    refusal-owed (shorten-writer _ _) (start accepted .args .shortened .now) (start accepted .args .answer .now) (wrote .before .before .room-beside .ensures .0)
+    (rw (same accepted) at (wrote .shorten-accepted .ensures)) (c .before .before .before .match .keys2) (c .before .before .number .ensures) (c .before .place .ensures) (c .code .ensures)
 
-shorten-accepted-requires-2 : tie.Need-shorten-accepted-requires-2
-shorten-accepted-requires-2 c κs = went (c .before .before)
-
-tell-restated-requires-2 : tie.Need-tell-restated-requires-2
-tell-restated-requires-2 c κs =
-    let accepted = c .before .before .before .before .before .before in
-    shorten-fits (start accepted .args .table .now) (start accepted .args .journal .now) (bytes accepted) _ _ (rw (same accepted) at (c .before .before .before .shorten-accepted2 .ensures .0))
+cast-bytes : tie.Need-cast-bytes
+cast-bytes c =
+    let wrote = c .before .before .before .before .before in
+    let accepted = wrote .before .before .before in
+    record { fits = value-small (shorten-writer _ _) _ (rw (same accepted) at (wrote .shorten-accepted .ensures .0)) (shorten-small _ _ (bytes accepted)) (c .before .done .given .1) 0 }
 
 returns-3 : tie.Need-returns-3
 returns-3 c =
-    let told = c .before .before in
-    let wrote = told .before .before .before .before in
+    let wrote = c .before .before .before .before .before .before .before .before .before .before in
     let accepted = wrote .before .before .before in
-    let made = rw (same accepted) at (wrote .shorten-accepted2 .ensures) in
-    long-owed _ _ _ (start accepted .args .answer .now) (shorten-writes (start accepted .args .table .now) (start accepted .args .journal .now))
-    (wrote .before .before .if2 .left) (start accepted .args .shortened .now) _ (made .1) _
-    (ap replyOf (made .0)) _ _ (told .tell-restated2 .ensures)
+    success-owed (shorten-writer _ _) (start accepted .args .shortened .now) (start accepted .args .answer .now) (wrote .before .before .room-beside .ensures .0)
+    (rw (same accepted) at (wrote .shorten-accepted .ensures)) (c .before .before .before .before .before .before .done .given .1) (c .before .before .tell .ensures)
 
 pub krossvil-shorten-spec : {M : Type 1} → statement M
 krossvil-shorten-spec =
     tie.close
-    (tie.spec (λ c. search needs) (λ c κs. search needs) returns
-    (λ c. search needs) shorten-accepted-requires tell-restated-requires (λ c. search needs) returns-2
-    shorten-accepted-requires-2 tell-restated-requires-2 (λ c. search needs) (λ c. search needs) returns-3)
+    (tie.spec (λ c. search needs) (λ c κs. search needs) returns (λ c κs. search needs) (λ c. search needs) slice-aggregate-shorten-accepted shorten-accepted-requires
+    (λ c. search needs) (λ c κs. search needs) (λ c κs. search needs) code-requires (λ c. search needs) returns-2
+    cast-bytes (λ c. search needs) (λ c κs. search needs) (λ c. search needs) (λ c. search needs) returns-3)

@@ -1,36 +1,34 @@
--- The journal buffer is lent only where the number has room.
-use mathlib.Core.Path.{ap}
-use Rattle.runtime.specs.Answer.{replyOf}
-use Rattle.krossvil.proofs.Writers.{short-owed, long-owed}
-use Rattle.krossvil.proofs.Runs.{run-writes}
-use Rattle.krossvil.proofs.Places.{run-fits}
+-- Of the journal buffer only the room beside the answer is lent.
+use mathlib.Core.Path.{sym}
+use lib.Seq.{length-take-le}
+use Rattle.krossvil.proofs.Writers.{code-fits, value-small, refusal-owed, success-owed}
+use Rattle.krossvil.proofs.Runs.{run-writer, run-small}
 use borrow.Author.Needs.{needs}
 use Rattle.krossvil.proofs.running.krossvil_run.Statement.{statement}
 use Rattle.krossvil.proofs.running.krossvil_run.Tie as tie
 
-tell-run-requires : tie.Need-tell-run-requires
-tell-run-requires c κs = run-fits _ _ _ _ (c .before .before .run .ensures .0)
+code-requires : tie.Need-code-requires
+code-requires c κs = code-fits (run-writer _ _) _ (c .before .before .before .before .before .run .ensures .0) (c .before .before .match .keys2) (c .before .number .ensures) (c .place .ensures)
 
 returns : tie.Need-returns
 returns c =
-    let tested = c .before .before .before .before .before .before .before in
-    let start = tested .before .before .before .before .before in
-    short-owed _ _ _ (start .args .answer .now) (run-writes (start .args .table .now) (start .args .stimulus .now)) (tested .if1 .taken) _ (start .args .journal .now) _
-    (ap replyOf (c .before .before .before .before .before .run .ensures .0)) _ _ (c .before .before .tell-run .ensures)
+    let wrote = c .before .before .before .before .before .before in
+    let args = wrote .before .before .before .before .before .before .before .args in
+    refusal-owed (run-writer _ _) (args .journal .now) (args .answer .now) (wrote .before .before .room-beside .ensures .0) (wrote .run .ensures)
+    (c .before .before .before .match .keys2) (c .before .before .number .ensures) (c .before .place .ensures) (c .code .ensures)
 
-tell-run-requires-2 : tie.Need-tell-run-requires-2
-tell-run-requires-2 c κs = run-fits _ _ _ _ (c .before .before .before .run2 .ensures .0)
+cast-bytes : tie.Need-cast-bytes
+cast-bytes c = record { fits = value-small (run-writer _ _) _ (c .before .before .before .before .before .run .ensures .0) (run-small _ _) (c .before .ran .given .1) 0 }
 
 returns-2 : tie.Need-returns-2
 returns-2 c =
-    let tested = c .before .before .before .before .before .before .before .before in
-    let start = tested .before .before .before .before .before in
-    let ran = c .before .before .before .before .before .before .run2 in
-    long-owed _ _ _ (start .args .answer .now) (run-writes (start .args .table .now) (start .args .stimulus .now)) (tested .if1 .left) (start .args .journal .now) _ (ran .ensures .1) _
-    (ap replyOf (ran .ensures .0)) _ _ (c .before .before .tell-run2 .ensures)
+    let wrote = c .before .before .before .before .before .before .before .before .before .before in
+    let args = wrote .before .before .before .before .before .before .before .args in
+    success-owed (run-writer _ _) (args .journal .now) (args .answer .now) (wrote .before .before .room-beside .ensures .0) (wrote .run .ensures)
+    (c .before .before .before .before .before .before .ran .given .1) (c .before .before .tell .ensures)
 
 pub krossvil-run-spec : {M : Type 1} → statement M
 krossvil-run-spec =
     tie.close
-    (tie.spec (λ c. search needs) (λ c κs. search needs) tell-run-requires (λ c. search needs) returns
-    (λ c κs. search needs) tell-run-requires-2 (λ c. search needs) (λ c. search needs) returns-2)
+    (tie.spec (λ c κs. search needs) (λ c. search needs) (λ c. sym (length-take-le _ _ (c .before .room-beside .ensures .1))) (λ c κs. search needs) (λ c. search needs) (λ c κs. search needs) (λ c κs. search needs)
+    code-requires (λ c. search needs) returns cast-bytes (λ c. search needs) (λ c κs. search needs) (λ c. search needs) (λ c. search needs) returns-2)

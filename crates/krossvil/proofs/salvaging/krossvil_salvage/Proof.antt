@@ -1,11 +1,11 @@
--- What the check turns down for good is passed up. The journal buffer is lent only where the report has room.
-use mathlib.Core.Path.{refl, sym, ap, _∙_}
+-- What the check turns down for good is passed up. Of the buffer only the room beside the answer is lent.
+use mathlib.Core.Path.{refl, sym, _∙_}
 use Prim.Native.Nat.{ℕ, _/_, _%_}
+use lib.Seq.{length-take-le}
 use Rattle.journal.specs.Check.{checkOf}
-use Rattle.salvage.specs.Answer.{replyOf}
 use Rattle.salvage.specs.Backwards.{SaidOf}
-use Rattle.krossvil.proofs.Writers.{short-owed, long-owed}
-use Rattle.krossvil.proofs.Salvages.{salvage-writes, salvage-fits, salvage-said, salvage-passed}
+use Rattle.krossvil.proofs.Writers.{code-fits, value-small, refusal-owed, success-owed}
+use Rattle.krossvil.proofs.Salvages.{salvage-writer, salvage-small, salvage-said, salvage-passed}
 use borrow.Author.Needs.{needs}
 use Rattle.krossvil.proofs.salvaging.krossvil_salvage.Statement.{statement}
 use Rattle.krossvil.proofs.salvaging.krossvil_salvage.Tie as tie
@@ -31,39 +31,42 @@ module _ (c : tie.Else1) where
       salvage-said (start .args .table .now) (start .args .journal .now) code _ _ (c .before .before .before .krossvil-check-journal .ensures .0) refl refl
       (sym (c .before .passes-up .ensures) ∙ c .if1 .left)
 
+slice-aggregate-salvage-checked : tie.Need-slice-aggregate-salvage-checked
+slice-aggregate-salvage-checked c = sym (length-take-le _ _ (c .before .room-beside .ensures .1))
+
 salvage-checked-requires : tie.Need-salvage-checked-requires
 salvage-checked-requires c κs = said (c .before .before)
 
-tell-salvaged-requires : tie.Need-tell-salvaged-requires
-tell-salvaged-requires c κs = salvage-fits _ _ _ _ (c .before .before .salvage-checked .ensures .0)
+code-requires : tie.Need-code-requires
+code-requires c κs = code-fits (salvage-writer _ _) _ (c .before .before .before .before .before .salvage-checked .ensures .0) (c .before .before .match .keys2) (c .before .number .ensures) (c .place .ensures)
 
 returns-2 : tie.Need-returns-2
 returns-2 c =
-    let told = c .before .before in
-    let wrote = told .before .before .before in
-    let tested = wrote .before .before in
-    let args = start (tested .before) .args in
-    short-owed _ _ _ (args .answer .now) (salvage-writes (args .table .now) (args .journal .now)) (tested .if2 .taken) _ (args .salvaged .now) _
-    (ap replyOf (wrote .salvage-checked .ensures .0)) _ _ (told .tell-salvaged .ensures)
+    let wrote = c .before .before .before .before .before .before in
+    let args = start (wrote .before .before .before) .args in
+    refusal-owed (salvage-writer _ _) (args .salvaged .now) (args .answer .now) (wrote .before .before .room-beside .ensures .0) (wrote .salvage-checked .ensures)
+    (c .before .before .before .match .keys2) (c .before .before .number .ensures) (c .before .place .ensures) (c .code .ensures)
 
-salvage-checked-requires-2 : tie.Need-salvage-checked-requires-2
-salvage-checked-requires-2 c κs = said (c .before .before)
+cast-t26 : tie.Need-cast-t26
+cast-t26 c = record { fits = value-small (salvage-writer _ _) _ (c .before .before .before .before .before .salvage-checked .ensures .0) (salvage-small _ _) (c .before .done .given .1) 0 }
 
-tell-salvaged-requires-2 : tie.Need-tell-salvaged-requires-2
-tell-salvaged-requires-2 c κs = salvage-fits _ _ _ _ (c .before .before .before .salvage-checked2 .ensures .0)
+cast-t27 : tie.Need-cast-t27
+cast-t27 c = record { fits = value-small (salvage-writer _ _) _ (c .before .before .before .before .before .salvage-checked .ensures .0) (salvage-small _ _) (c .before .done .given .1) 1 }
+
+cast-t28 : tie.Need-cast-t28
+cast-t28 c = record { fits = value-small (salvage-writer _ _) _ (c .before .before .before .before .before .salvage-checked .ensures .0) (salvage-small _ _) (c .before .done .given .1) 3 }
 
 returns-3 : tie.Need-returns-3
 returns-3 c =
-    let told = c .before .before in
-    let wrote = told .before .before .before .before in
-    let tested = wrote .before .before in
-    let args = start (tested .before) .args in
-    long-owed _ _ _ (args .answer .now) (salvage-writes (args .table .now) (args .journal .now)) (tested .if2 .left) (args .salvaged .now) _
-    (wrote .salvage-checked2 .ensures .1) _ (ap replyOf (wrote .salvage-checked2 .ensures .0)) _ _ (told .tell-salvaged2 .ensures)
+    let wrote = c .before .before .before .before .before .before .before .before .before .before in
+    let args = start (wrote .before .before .before) .args in
+    success-owed (salvage-writer _ _) (args .salvaged .now) (args .answer .now) (wrote .before .before .room-beside .ensures .0) (wrote .salvage-checked .ensures)
+    (c .before .before .before .before .before .before .done .given .1) (c .before .before .tell .ensures)
 
 pub krossvil-salvage-spec : {M : Type 1} → statement M
 krossvil-salvage-spec =
     tie.close
     (tie.spec (λ c. search needs) (λ c κs. search needs) (λ c. search needs) (λ c κs. search needs) returns
-    (λ c. search needs) salvage-checked-requires tell-salvaged-requires (λ c. search needs) returns-2
-    salvage-checked-requires-2 tell-salvaged-requires-2 (λ c. search needs) (λ c. search needs) returns-3)
+    (λ c κs. search needs) (λ c. search needs) slice-aggregate-salvage-checked salvage-checked-requires
+    (λ c. search needs) (λ c κs. search needs) (λ c κs. search needs) code-requires (λ c. search needs) returns-2
+    cast-t26 cast-t27 cast-t28 (λ c. search needs) (λ c κs. search needs) (λ c. search needs) (λ c. search needs) returns-3)

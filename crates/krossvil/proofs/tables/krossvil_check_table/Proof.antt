@@ -9,7 +9,7 @@ use Rattle.krossvil.proofs.tables.krossvil_check_table.Statement.{state
 use Rattle.krossvil.proofs.tables.krossvil_check_table.Tie as tie
 
 code-requires : tie.Need-code-requires
-code-requires c κs = let f = fits replyOf _ _ (c .before .before .check .ensures) _ _ (c .before .number .ensures) (c .place .ensures) (table-fits false _) in (f .number, f .place)
+code-requires c κs = fits replyOf _ _ (c .before .before .check .ensures) _ _ (c .before .number .ensures) (c .place .ensures) (table-fits false _)
 
 returns : tie.Need-returns
 returns c = rw (c .code .ensures, c .before .before .number .ensures, c .before .place .ensures, c .before .before .before .check .ensures) refl

@@ -1,35 +1,31 @@
--- The new table is lent only where the number has room.
-use mathlib.Core.Path.{ap}
-use Rattle.convert.specs.Answer.{replyOf}
-use Rattle.krossvil.proofs.Writers.{short-owed, long-owed}
-use Rattle.krossvil.proofs.Converts.{convert-writes, convert-fits}
+-- Of the buffer only the room beside the answer is lent.
+use mathlib.Core.Path.{sym}
+use lib.Seq.{length-take-le}
+use Rattle.krossvil.proofs.Writers.{code-fits, refusal-owed, success-owed}
+use Rattle.krossvil.proofs.Converts.{convert-writer}
 use borrow.Author.Needs.{needs}
 use Rattle.krossvil.proofs.tables.krossvil_convert_table.Statement.{statement}
 use Rattle.krossvil.proofs.tables.krossvil_convert_table.Tie as tie
 
-tell-converted-requires : tie.Need-tell-converted-requires
-tell-converted-requires c κs = convert-fits _ _ _ (c .before .before .convert .ensures .0)
+code-requires : tie.Need-code-requires
+code-requires c κs = code-fits (convert-writer _) _ (c .before .before .before .before .before .convert .ensures .0) (c .before .before .match .keys2) (c .before .number .ensures) (c .place .ensures)
 
 returns : tie.Need-returns
 returns c =
-    let tested = c .before .before .before .before .before .before .before in
-    let start = tested .before .before .before .before in
-    short-owed _ _ _ (start .args .answer .now) (convert-writes (start .args .table .now)) (tested .if1 .taken) _ (start .args .converted .now) _
-    (ap replyOf (c .before .before .before .before .before .convert .ensures .0)) _ _ (c .before .before .tell-converted .ensures)
-
-tell-converted-requires-2 : tie.Need-tell-converted-requires-2
-tell-converted-requires-2 c κs = convert-fits _ _ _ (c .before .before .before .convert2 .ensures .0)
+    let wrote = c .before .before .before .before .before .before in
+    let args = wrote .before .before .before .before .before .before .args in
+    refusal-owed (convert-writer _) (args .converted .now) (args .answer .now) (wrote .before .before .room-beside .ensures .0) (wrote .convert .ensures)
+    (c .before .before .before .match .keys2) (c .before .before .number .ensures) (c .before .place .ensures) (c .code .ensures)
 
 returns-2 : tie.Need-returns-2
 returns-2 c =
-    let tested = c .before .before .before .before .before .before .before .before in
-    let start = tested .before .before .before .before in
-    let done = c .before .before .before .before .before .before .convert2 in
-    long-owed _ _ _ (start .args .answer .now) (convert-writes (start .args .table .now)) (tested .if1 .left) (start .args .converted .now) _ (done .ensures .1) _
-    (ap replyOf (done .ensures .0)) _ _ (c .before .before .tell-converted2 .ensures)
+    let wrote = c .before .before .before .before .before .before .before .before .before .before in
+    let args = wrote .before .before .before .before .before .before .args in
+    success-owed (convert-writer _) (args .converted .now) (args .answer .now) (wrote .before .before .room-beside .ensures .0) (wrote .convert .ensures)
+    (c .before .before .before .before .before .before .done .given .1) (c .before .before .tell .ensures)
 
 pub krossvil-convert-table-spec : {M : Type 1} → statement M
 krossvil-convert-table-spec =
     tie.close
-    (tie.spec (λ c. search needs) (λ c κs. search needs) tell-converted-requires (λ c. search needs) returns
-    (λ c κs. search needs) tell-converted-requires-2 (λ c. search needs) (λ c. search needs) returns-2)
+    (tie.spec (λ c κs. search needs) (λ c. search needs) (λ c. sym (length-take-le _ _ (c .before .room-beside .ensures .1))) (λ c κs. search needs) (λ c. search needs) (λ c κs. search needs) (λ c κs. search needs)
+    code-requires (λ c. search needs) returns (λ c. search needs) (λ c κs. search needs) (λ c. search needs) (λ c. search needs) returns-2)
