@@ -32,10 +32,7 @@ two e f = rw (e, f) refl
 three : {x x′ y y′ z z′ : List ℕ} → x ≡ x′ → y ≡ y′ → z ≡ z′ → _≡_ {A = List (List ℕ)} (x ∷ y ∷ z ∷ []) (x′ ∷ y′ ∷ z′ ∷ [])
 three e f g = rw (e, f, g) refl
 
--- Two outcomes that both are what the clauses say: with nothing lent, a buffer, and in C a buffer beside the answer.
-none-lent : {A : Type 0} {r r′ x : A} → r ≡ x → r′ ≡ x → (r ≡ r′) × (_≡_ {A = List (List ℕ)} [] [])
-none-lent p q = (p ∙ sym q, refl)
-
+-- Two outcomes that both are what the clauses say: with a buffer, and in C with a buffer beside the answer.
 one-lent : {A : Type 0} {r r′ x : A} {l l′ y : List ℕ} → (r ≡ x) × (l ≡ y) → (r′ ≡ x) × (l′ ≡ y) → (r ≡ r′) × (_≡_ {A = List (List ℕ)} (l ∷ []) (l′ ∷ []))
 one-lent p q = (p .0 ∙ sym (q .0), one (p .1 ∙ sym (q .1)))
 
@@ -45,24 +42,24 @@ two-lent p q = (p .0 ∙ sym (q .0), two (p .1 .1 ∙ sym (q .1 .1)) (p .1 .0 �
 
 pub every-entry-determines : EveryEntryDetermines
 every-entry-determines = (
-  record { asks-nothing = λ κs a. tt; one-outcome = λ κs a r r′ s s′ p p′. none-lent p p′ },
-  record { asks-nothing = λ κs a. tt; one-outcome = λ κs a r r′ s s′ p p′. none-lent p p′ },
+  record { asks-nothing = λ κs a. tt; one-outcome = λ κs a r r′ s s′ p p′. (p ∙ sym p′, refl) },
+  record { asks-nothing = λ κs a. tt; one-outcome = λ κs a r r′ s s′ p p′. (p ∙ sym p′, refl) },
   record { asks-nothing = λ κs a. tt; one-outcome = λ κs a r r′ s s′ p p′. one-lent p p′ },
-  record { asks-nothing = λ κs a. tt; one-outcome = λ κs a r r′ s s′ p p′. none-lent p p′ },
+  record { asks-nothing = λ κs a. tt; one-outcome = λ κs a r r′ s s′ p p′. (p ∙ sym p′, refl) },
   record {
     asks-nothing = λ κs a. tt;
     one-outcome = λ κs a r r′ s s′ p p′. (p .0 ∙ sym (p′ .0), two (p .1 .0 ∙ sym (p′ .1 .0)) (p .1 .1 ∙ sym (p′ .1 .1)));
   },
   record { asks-nothing = λ κs a. tt; one-outcome = λ κs a r r′ s s′ p p′. one-lent p p′ },
   record { asks-nothing = λ κs a. tt; one-outcome = λ κs a r r′ s s′ p p′. one-lent p p′ },
-  record { asks-nothing = λ κs a. tt; one-outcome = λ κs a r r′ s s′ p p′. none-lent p p′ },
+  record { asks-nothing = λ κs a. tt; one-outcome = λ κs a r r′ s s′ p p′. (p ∙ sym p′, refl) },
   record { asks-nothing = λ κs a. tt; one-outcome = λ κs a r r′ s s′ p p′. one-lent p p′ },
   record { asks-nothing = λ κs a. tt; one-outcome = λ κs a r r′ s s′ p p′. one-lent p p′ },
-  record { asks-nothing = λ κs a. tt; one-outcome = λ κs a r r′ s s′ p p′. none-lent p p′ },
+  record { asks-nothing = λ κs a. tt; one-outcome = λ κs a r r′ s s′ p p′. (p ∙ sym p′, refl) },
   record { asks-nothing = λ κs a. tt; one-outcome = λ κs a r r′ s s′ p p′. one-lent p p′ },
-  record { asks-nothing = λ κs a. tt; one-outcome = λ κs a r r′ s s′ p p′. none-lent p p′ },
-  record { asks-nothing = λ κs a. tt; one-outcome = λ κs a r r′ s s′ p p′. none-lent p p′ },
-  record { asks-nothing = λ κs a. tt; one-outcome = λ κs a r r′ s s′ p p′. none-lent p p′ },
+  record { asks-nothing = λ κs a. tt; one-outcome = λ κs a r r′ s s′ p p′. (p ∙ sym p′, refl) },
+  record { asks-nothing = λ κs a. tt; one-outcome = λ κs a r r′ s s′ p p′. (p ∙ sym p′, refl) },
+  record { asks-nothing = λ κs a. tt; one-outcome = λ κs a r r′ s s′ p p′. (p ∙ sym p′, refl) },
   record { asks-nothing = λ κs a. tt; one-outcome = λ κs a r r′ s s′ p p′. one-lent p p′ },
   record { asks-nothing = λ κs a. tt; one-outcome = λ κs a r r′ s s′ p p′. two-lent p p′ },
   record { asks-nothing = λ κs a. tt; one-outcome = λ κs a r r′ s s′ p p′. one-lent p p′ },

@@ -1,33 +1,34 @@
 -- Acceptance and demand 3, as specs/Demands states them.
-use mathlib.Core.Path.{_≡_, refl, sym, _∙_}
+use mathlib.Core.Path.{_≡_, refl, sym, ap, _∙_}
 use mathlib.Core.List.{List, [], _∷_, _++_}
-use Prim.Native.Nat.{ℕ, _^_, _≤_}
+use Prim.Native.Nat.{ℕ, _^_}
 use borrow.Author.Tests.{lt-ltb}
-use lib.ListN.{length}
 use Rattle.wire.specs.Encode.{Bytes}
 use Rattle.sets.proofs.Members.{below-limit}
 use Rattle.table.specs.declared.Table.{Table}
-use Rattle.table.specs.Table.{outputOf, WellFormed}
+use Rattle.table.specs.Table.{WellFormed}
 use Rattle.table.specs.Encode.{tableBytes}
 use Rattle.table.specs.declared.Answer.the-variants.{Passes}
 use Rattle.table.specs.Check.{tableAnswer, tableIn}
 use Rattle.records.specs.declared.Record.{Record}
 use Rattle.records.specs.declared.Record.the-variants.{End}
 use Rattle.records.specs.Form as form
-use Rattle.records.specs.Form.{longestJournal}
 use Rattle.records.proofs.Written.{records-are-one, journal-recovers}
+use Rattle.records.proofs.Says.{keeps-all}
 use Rattle.records.specs.Record.{isTest}
 use Rattle.machine.specs.Machine.{start, left, after}
-use Rattle.machine.specs.Run.{Runs, ticksOf, movesFrom, mostLeft}
+use Rattle.machine.specs.Run.{Runs, mostLeft}
 use Rattle.machine.specs.Walk.{inTable}
+use Rattle.machine.specs.RunsOver.{RunsOver}
 use Rattle.machine.specs.declared.Machine.{Machine}
 use Rattle.machine.specs.Most.{MostOf}
 use Rattle.machine.specs.Longest.{LongestOf}
+use Rattle.machine.proofs.RunsOver.{runs-over}
 use Rattle.machine.proofs.Left.{left-until-free, left-is-most}
 use Rattle.machine.proofs.Longest.{longest-is-cycle}
 use Rattle.journal.specs.declared.Numbers.{Numbers}
 use Rattle.journal.specs.declared.Answer.the-variants.{Accepted}
-use Rattle.journal.specs.Check.{checkUnder, checkOf}
+use Rattle.journal.specs.Check.{numbersOf, answerOfRun, checkUnder, checkOf}
 use Rattle.reaction.specs.declared.Answer.the-variants.{Reacts}
 use Rattle.reaction.specs.Reaction.{nextSet, reactionTime, reactionOf, reactOf}
 use Rattle.reaction.proofs.Meaning.{only-answer}
@@ -36,53 +37,23 @@ use Rattle.moves.proofs.Fitting.{Fits, fits}
 use Rattle.runs.specs.Accepted as runs
 use Rattle.runs.specs.Automaton.{RunOf}
 use Rattle.runs.proofs.Automaton.{machine-is-automaton}
-use Rattle.laws.specs.Journals.{JournalOf, AcceptedRun}
+use Rattle.laws.specs.Journals.{AcceptedRun}
 use Rattle.laws.proofs.Moves.{answered}
 use Rattle.laws.proofs.Tables.{holds-that-table}
-use Rattle.laws.proofs.Journals.{ends-at, left-end, under, run-accepted, accepts-exactly, checks-exactly}
+use Rattle.laws.proofs.Journals.{ends-at, left-end, under, accepts-exactly, checks-exactly}
 use Rattle.demands.specs.Runs.{Calculated}
 use Rattle.demands.specs.Demands.{Accepts, Holds, HoldsRun, LeftTold, LongestTold, AcceptedIsRun, LeftIsMost, LongestIsCycle, AcceptedJournal, NotTooSoon, NotTooSoonBy, NotTooLate, NotTooLateByMoves}
 use Rattle.demands.proofs.Runs.{runs-not-too-soon, runs-not-too-soon-by, runs-not-too-late, runs-not-too-late-by-moves}
 
 -- ---- Acceptance
 
--- The run of an accepted journal without its bytes and its numbers, and back.
+-- The run of an accepted journal without its bytes and its numbers.
 of-run : {t : Table} {s : List ℕ} {n : Numbers} (a : AcceptedRun form.journal t s n) →
     runs.Accepted t (a .input) (a .records ++ End (n .end) ∷ []) (n .end)
 of-run {t} {n = n} a = record {
   last = a .last;
   runs = a .runs;
   ends = sym (ends-at t (n .end) (start (t .initial) (a .input)) (a .last) (a .records) (a .runs));
-}
-
-abbrev ran : Table → ℕ → ℕ → List Record → Machine → Numbers
-ran t input T before last = record {
-  end = T;
-  ticks = ticksOf before;
-  moves = movesFrom (t .initial) before;
-  state = last .state;
-  output = outputOf t (last .state);
-  left = mostLeft t (start (t .initial) input) before;
-  longest = last .longest;
-}
-
-accepts-run : {t : Table} {s : List ℕ} {T input : ℕ} {before : List Record} →
-    length s ≤ longestJournal → JournalOf t s input before T →
-    (a : runs.Accepted t input (before ++ End T ∷ []) T) →
-    AcceptedRun form.journal t s (ran t input T before (a .last))
-accepts-run {input = input} {before = before} short journal a = record {
-  short = short;
-  input = input;
-  records = before;
-  written = journal;
-  last = a .last;
-  runs = a .runs;
-  ticks-are = refl;
-  moves-are = refl;
-  state-is = refl;
-  output-is = refl;
-  left-is = refl;
-  longest-is = refl;
 }
 
 most-of : (t : Table) (m : Machine) (rs : List Record) (most : ℕ) → most ≡ mostLeft t m rs → MostOf (after t) isTest (left t) m rs most
@@ -130,23 +101,21 @@ module _ (table journal : List ℕ) (table-bytes : Bytes table) (bytes : Bytes j
   }
 
   longest-told : LongestTold table journal n
-  longest-told = record {
-    t = found .0;
-    input = found .3 .input;
-    records = all;
-    holds = held;
-    longest = longest-of (found .0) (found .3 .input) all (found .3 .last) (found .3 .runs) (n .longest) (found .3 .longest-is);
-  }
+  longest-told =
+      let cycle = longest-of (found .0) (found .3 .input) all (found .3 .last) (found .3 .runs) (n .longest) (found .3 .longest-is) in
+      record { t = found .0; input = found .3 .input; records = all; holds = held; longest = cycle }
 
 -- A run in bytes is accepted under its table, with its end.
 pub run-taken : {table journal : List ℕ} {T : ℕ} (r : HoldsRun table journal T) →
     (n : Numbers) × (n .end ≡ T) × (checkUnder form.journal (r .t) journal ≡ Accepted n)
+unfolding answerOfRun
 run-taken {table} {journal} {T} r =
     let h = r .holds in
     let records = h .before-end ++ End T ∷ [] in
     let a = machine-is-automaton (r .t) (h .well-formed) (r .input) records T .1 (rw (h .records-are) at (r .run)) in
-    let accepts = accepts-run (r .short) (h .journal-is) a in
-    (_, refl, run-accepted form.journal refl (r .t) journal _ accepts)
+    let over : RunsOver form.journal (r .t) journal (r .input) records (a .last) =
+    record { short = r .short; said = h .before-end; end = T; written = h .journal-is; says = keeps-all form.journal refl records; runs = a .runs } in
+    (numbersOf (r .t) (r .input) records (a .last), a .ends, ap (answerOfRun (r .t)) (runs-over form.journal (r .t) journal (r .input) records (a .last) over))
 
 pub holds-accepted : {table journal : List ℕ} {T : ℕ} → HoldsRun table journal T → Accepts table journal T
 holds-accepted {table} {journal} r =
