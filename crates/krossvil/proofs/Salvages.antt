@@ -30,7 +30,7 @@ use Rattle.journal.specs.Answer as journal
 use Rattle.journal.specs.Answer.{listed}
 use Rattle.journal.specs.Check.{answerOfRun, checkIn, checkOf}
 use Rattle.salvage.specs.declared.Answer.{Answer}
-use Rattle.salvage.specs.declared.Answer.the-variants.{Salvaged, TableRefused, TooLong, Refused, BufferTooShort}
+use Rattle.salvage.specs.declared.Answer.the-variants.{Salvaged, Refused, BufferTooShort}
 use Rattle.salvage.specs.Answer.{replyOf}
 use Rattle.salvage.specs.Salvage.{closed, salvageOf}
 use Rattle.salvage.specs.Backwards.{SaidOf, cutWithin, fieldsBefore}
@@ -46,7 +46,7 @@ use Rattle.krossvil.proofs.Accepting.{table-numbered}
 use Rattle.krossvil.proofs.Writers.{Writer, writer, Gives, Tells, Small, WriteOwed, turned-down-owed}
 
 abbrev pub Left : Answer → Type 0
-Left a = OneOf (1 ∷ 2 ∷ 3 ∷ 4 ∷ []) (tagOf AnswerT.the-type a)
+Left a = OneOf (1 ∷ 2 ∷ []) (tagOf AnswerT.the-type a)
 
 abbrev pub Says : Made Answer → Type 0
 Says m = Tells replyOf Left 4 m × Small replyOf m
@@ -56,7 +56,7 @@ Says m = Tells replyOf Left 4 m × Small replyOf m
 report-said : (kept dropped number place : ℕ) → kept ≤ longestJournal → dropped ≤ longestJournal → number ≤ 35 → place ≤ longestJournal →
     Gives replyOf Left 4 (Salvaged kept dropped number place) × ((k : ℕ) → getD (kept ∷ dropped ∷ number ∷ place ∷ []) k 0 < 2 ^ 32)
 report-said kept dropped number place h₁ h₂ h₃ h₄ =
-    (record { values = kept ∷ dropped ∷ number ∷ place ∷ []; count = refl; is = refl; kept = miss (1 ∷ 2 ∷ 3 ∷ 4 ∷ []) 0 tt }, go)
+    (record { values = kept ∷ dropped ∷ number ∷ place ∷ []; count = refl; is = refl; kept = miss (1 ∷ 2 ∷ []) 0 tt }, go)
   where
     go : (k : ℕ) → getD (kept ∷ dropped ∷ number ∷ place ∷ []) k 0 < 2 ^ 32
     go zero = omega arith
@@ -74,8 +74,8 @@ says table s = rw (agrees s table .is) (go (checkOf table s) (agrees s table .pl
     go checked.TooLong h fits = (plain 19 0 (omega arith) refl (omega arith), tt)
     go (checked.Refused x place) placed fits = by-place (place =? 0) refl
       where
-        by-place : (b : Bool) → (place =? 0) ≡ b → Says (if b then made.refused (Refused x 0) else closed s (cutWithin s (fieldsBefore place)) (numberOf x) place)
-        by-place true e = (of-record x 0 (omega arith), tt)
+        by-place : (b : Bool) → (place =? 0) ≡ b → Says (if b then made.refused (Refused (checked.Refused x place)) else closed s (cutWithin s (fieldsBefore place)) (numberOf x) place)
+        by-place true e = (of-record x place (omega (arith, eqb-true place 0 e)), tt)
         by-place false e =
             let h = placed (eqb-false place 0 e) in
             report-said _ _ _ _ (omega (arith, h .0, h .1, h .2, tick-within s (fieldsBefore place))) (omega (arith, h .2)) (of-record x 0 (omega arith) .fits .number)
@@ -110,10 +110,10 @@ table-said table s =
     (λ r other. rw r (table-numbered (tableAnswer table) r, table-low false table))
 
 -- What the check told is passed up, or it is what salvage goes by.
-pub data Heard (table s : List ℕ) (code number place : ℕ) : Type 0 where
-  goes-on : passedUp number place ≡ false → SaidOf (checkOf table s) number place → Heard table s code number place
-  stops : passedUp number place ≡ true → (x : Answer) → salvageOf table s ≡ made.refused x → code ≡ codeOf (told (replyOf x) 28) →
-      Heard table s code number place
+pub data Heard (table s : List ℕ) (number place : ℕ) : Type 0 where
+  goes-on : passedUp number place ≡ false → SaidOf (checkOf table s) number place → Heard table s number place
+  stops : passedUp number place ≡ true → salvageOf table s ≡ made.refused (Refused (checkOf table s)) → valuesIn (journal.replyOf (checkOf table s)) ≡ [] →
+      Heard table s number place
 
 module _ (table s : List ℕ) (code number place : ℕ) (e : code ≡ codeOf (journalTold table s 28)) (number-is : number ≡ code / 4294967296)
     (place-is : place ≡ code % 4294967296) where
@@ -123,48 +123,42 @@ module _ (table s : List ℕ) (code number place : ℕ) (e : code ≡ codeOf (jo
       let whole : code ≡ codeOf reply = f ∙ ap codeOf (told-fits reply 28 (rw none (omega arith))) in
       (omega (arith, fits .place), omega (arith, fits .place))
 
-  heard : Heard table s code number place
+  heard : Heard table s number place
   unfolding passedUp
   heard = go (checkOf table s) refl (table-said table s) (journal-fits table s)
     where
       stopped : (x : Refusal) (at : ℕ) → checkOf table s ≡ checked.Refused x at → (number ≡ numberOf x) × (place ≡ at) → (b : Bool) → (at =? 0) ≡ b →
-          Heard table s code number place
+          Heard table s number place
       stopped x at f (n, p) true z =
-          let zero : at ≡ 0 = eqb-true at 0 z in
-          let same : checkOf table s ≡ checked.Refused x 0 = f ∙ ap (checked.Refused x) zero in
-          stops (rw (n, p, refusal-numbered x, le-ltb (numberOf x) 20 (refusal-high x), zero) refl) (Refused x 0) (agrees s table .is ∙ rw same refl)
-          (e ∙ rw same refl)
+          stops (rw (n, p, refusal-numbered x, le-ltb (numberOf x) 20 (refusal-high x), z) refl) (agrees s table .is ∙ rw (f, z) refl) (rw f refl)
       stopped x at f (n, p) false z =
           goes-on (rw (n, p, refusal-numbered x, le-ltb (numberOf x) 20 (refusal-high x), z) refl) (rw f (n, p, eqb-false at 0 z))
 
-      go : (a : journal′.Answer) → checkOf table s ≡ a → TableSaid a → Fits (journal.replyOf a) → Heard table s code number place
+      go : (a : journal′.Answer) → checkOf table s ≡ a → TableSaid a → Fits (journal.replyOf a) → Heard table s number place
       go (checked.Accepted n) f said fits =
           let none : code ≡ 0 = e ∙ rw (f, told-fits (gives (listed n)) 28 (omega arith)) refl in
           let zero : number ≡ 0 = omega arith in
           goes-on (rw zero refl) (rw f zero)
       go (checked.TableRefused x) f (some, low) fits =
-          let c : code ≡ codeOf (told (table-answer.replyOf x) 28) = e ∙ rw f refl in
-          let n = told-apart (table-answer.replyOf x) fits (table-none x) c in
-          stops (rw (n .0, some, lt-ltb (numberIn (table-answer.replyOf x)) 20 low) refl) (TableRefused x) (agrees s table .is ∙ rw f refl) c
+          let n = told-apart (table-answer.replyOf x) fits (table-none x) (e ∙ rw f refl) in
+          stops (rw (n .0, some, lt-ltb (numberIn (table-answer.replyOf x)) 20 low) refl) (agrees s table .is ∙ rw f refl) (rw f (table-none x))
       go checked.TooLong f said fits =
-          let c : code ≡ codeOf (told (refuses 19 0) 28) = e ∙ rw f refl in
-          let n = told-apart (refuses 19 0) fits refl c in
-          stops (rw (n .0) refl) TooLong (agrees s table .is ∙ rw f refl) c
+          let n = told-apart (refuses 19 0) fits refl (e ∙ rw f refl) in
+          stops (rw (n .0) refl) (agrees s table .is ∙ rw f refl) (rw f refl)
       go (checked.Refused x at) f said fits =
-          let c : code ≡ codeOf (told (refuses (numberOf x) at) 28) = e ∙ rw f refl in
-          stopped x at f (told-apart (refuses (numberOf x) at) fits refl c) (at =? 0) refl
+          stopped x at f (told-apart (refuses (numberOf x) at) fits refl (e ∙ rw f refl)) (at =? 0) refl
 
   -- What the entry needs of it.
   pub salvage-said : passedUp number place ≡ false → SaidOf (checkOf table s) number place
   salvage-said left = go heard
     where
-      go : Heard table s code number place → SaidOf (checkOf table s) number place
+      go : Heard table s number place → SaidOf (checkOf table s) number place
       go (goes-on f said) = said
-      go (stops f x is c) = never (sym left ∙ f)
+      go (stops f is none) = never (sym left ∙ f)
 
   pub salvage-passed : passedUp number place ≡ true → (buffer answer : List ℕ) → WriteOwed (salvage-writer table s) buffer answer code answer buffer
   salvage-passed up buffer answer = go heard
     where
-      go : Heard table s code number place → WriteOwed (salvage-writer table s) buffer answer code answer buffer
+      go : Heard table s number place → WriteOwed (salvage-writer table s) buffer answer code answer buffer
       go (goes-on f said) = never (sym f ∙ up)
-      go (stops f x is c) = turned-down-owed (salvage-writer table s) x is 28 code c buffer answer
+      go (stops f is none) = turned-down-owed (salvage-writer table s) (Refused (checkOf table s)) is 28 code e buffer answer

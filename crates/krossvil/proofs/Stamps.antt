@@ -17,11 +17,11 @@ use Rattle.records.specs.declared.Opening.the-variants as opening
 use Rattle.records.specs.Form.{stamped, longestStamped}
 use Rattle.records.specs.Reading.{Items, item, done, broken, anyRecord, openingOf, itemsOf}
 use Rattle.records.proofs.Places.{Within, items-within}
-use Rattle.stamped.specs.declared.Answer.{Answer}
-use Rattle.stamped.specs.declared.Answer.the-variants.{TooLong, BufferTooShort}
-use Rattle.stamped.specs.Answer.{replyOf}
+use Rattle.writing.specs.declared.Answer.{Answer}
+use Rattle.writing.specs.declared.Answer.the-variants.{TooLong, BufferTooShort}
+use Rattle.writing.specs.Answer.{replyOf}
 use Rattle.stamped.specs.Stamped.{Listed, listed, stopped, before, listOf, madeOfRecords, readOpened, readOf}
-use Rattle.stamped.proofs.Answer as AnswerT
+use Rattle.writing.proofs.Answer as AnswerT
 use Rattle.stamped.proofs.Lengths.{Short, read-short}
 use Rattle.krossvil.proofs.Places.{plain, of-record}
 use Rattle.krossvil.proofs.Writers.{Writer, writer, Tells, Small, one-number, one-small}

@@ -20,8 +20,8 @@ use Rattle.salvage.specs.Salvage.{salvageOf}
 use Rattle.convert.specs.declared.Answer.the-variants as converted
 use Rattle.convert.specs.Answer as convert
 use Rattle.convert.specs.Convert.{madeOf}
-use Rattle.stamped.specs.declared.Answer.the-variants as read
-use Rattle.stamped.specs.Answer as stamped
+use Rattle.writing.specs.declared.Answer.the-variants as read
+use Rattle.writing.specs.Answer as stamped
 use Rattle.stamped.specs.Stamped.{readOf}
 use Rattle.restate.specs.declared.Answer.the-variants as restated
 use Rattle.restate.specs.Answer as restate

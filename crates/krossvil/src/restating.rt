@@ -1,8 +1,8 @@
 // A journal in another form: read from stamps, shortened, lengthened.
 ghost use mathlib.Core.Path.{_≡_};
 ghost use lib.ListN.{length};
-ghost use Rattle.stamped.specs.declared.Answer.the-variants as stamped-variants;
-ghost use Rattle.stamped.specs.Answer as stamped-answer;
+ghost use Rattle.writing.specs.declared.Answer.the-variants as stamped-variants;
+ghost use Rattle.writing.specs.Answer as stamped-answer;
 ghost use Rattle.stamped.specs.Stamped.{readOf};
 ghost use Rattle.restate.specs.declared.Answer.the-variants.{BufferTooShort};
 ghost use Rattle.restate.specs.Answer.{replyOf};
@@ -28,7 +28,7 @@ pub extern "C" fn krossvil_read_stamped(
 {
     let room = room_beside(answer.len(), ONE_NUMBER, journal.len());
     let done = stamped::read(stamped, &mut journal[..room]);
-    let stamped::Answer::Written(size) = done else {
+    let writing::Answer::Written(size) = done else {
         return code(done.number(), done.place());
     };
     let bytes = size as u32;
