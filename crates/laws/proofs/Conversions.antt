@@ -25,7 +25,7 @@ use Rattle.table.proofs.Answers.{decided}
 use Rattle.table.proofs.Stands.{old-stands}
 use Rattle.table.proofs.Under.{under-passes}
 use Rattle.table.proofs.Values.{length-values, getD-filled, filled-uses, total-none}
-use Rattle.table.proofs.WellFormed.{well-formed-by, well-formed}
+use Rattle.table.proofs.WellFormed.{retimed, well-formed-by, well-formed}
 use Rattle.table.proofs.Words.{length-words}
 use Rattle.convert.specs.declared.Answer.the-variants.{Converted, TableRefused, BufferTooShort}
 use Rattle.convert.specs.Convert.{newSet, change, withSets, emptied, byState, newBytes, changes, madeOf}
@@ -66,29 +66,19 @@ with-sets : {old other : Bool} (t : Table) → WellFormedBy old t → (sets : Li
     ((q i : ℕ) → q < t .states → delays (withSets t sets) q i ≡ true → i < t .inputs) →
     (other ≡ false → (q : ℕ) → q < t .states → holdOf t q ≡ 0 → delayedOf (withSets t sets) q ≡ 0) →
     (other ≡ true → t .timers ≡ 0) → Uses (holders t) 32 sets → WellFormedBy other (withSets t sets)
-with-sets t ok sets delayed not-idle no-timers uses = record {
-  states = ok .states;
-  inputs = ok .inputs;
-  outputs = ok .outputs;
-  initial = ok .initial;
-  bound = ok .bound;
-  output = ok .output;
-  next = ok .next;
-  hold = ok .hold;
-  delayed = delayed;
-  not-idle = not-idle;
-  timers = ok .timers;
-  no-timers = no-timers;
-  length = ok .length;
-  region = ok .region;
-  sets = ok .sets;
-  output-uses = ok .output-uses;
-  next-uses = ok .next-uses;
-  hold-uses = ok .hold-uses;
-  delayed-uses = uses;
-  timing-uses = ok .timing-uses;
-  sets-uses = ok .sets-uses;
-}
+with-sets t ok sets delayed not-idle no-timers uses =
+    retimed t ok (t .hold) sets (t .timers) (t .timing) (t .sets)
+    (record {
+      hold = ok .hold;
+      delayed = delayed;
+      not-idle = not-idle;
+      timers = ok .timers;
+      no-timers = no-timers;
+      length = ok .length;
+      region = ok .region;
+      sets = ok .sets;
+    })
+    (ok .hold-uses) uses (ok .timing-uses) (ok .sets-uses)
 
 -- In a table without timers every state may have a hold of its own.
 empty-regions : {old : Bool} (t : Table) → WellFormedBy old t → t .timers ≡ 0 → (k : ℕ) → regionOf t k ≡ 0

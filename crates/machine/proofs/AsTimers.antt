@@ -16,6 +16,7 @@ use Rattle.table.specs.declared.Table.{Table}
 use Rattle.table.specs.Table.{member, holdOf, delayedOf, lengthOf, regionOf, timerSetOf, inRegion, holders, Uses, WellFormed}
 use Rattle.table.specs.Entries.{values, zeros}
 use Rattle.table.proofs.Values.{getD-filled, filled-uses}
+use Rattle.table.proofs.WellFormed.{retimed}
 use Rattle.records.specs.declared.Record.{Record}
 use Rattle.records.specs.declared.Record.the-variants.{Change, Poll, Test, Tick, End}
 use Rattle.records.specs.declared.Refusal.{Refusal}
@@ -218,29 +219,20 @@ module _ (t : Table) (good : WellFormed t) (few : FewHolds t) where
 
   well-formed : WellFormed t′
   unfolding asTimers
-  well-formed = record {
-    states = good .states;
-    inputs = good .inputs;
-    outputs = good .outputs;
-    initial = good .initial;
-    bound = good .bound;
-    output = good .output;
-    next = good .next;
-    hold = λ q low. rw (nothing-at q) (omega arith);
-    delayed = λ q i low is. no-member i (t .inputs) (rw (nothing-at q) at is);
-    not-idle = λ new q low none. nothing-at q;
-    timers = few .at-most-four;
-    no-timers = λ old. never old;
-    length = λ k l. let hold = holds k l in rw (length-is k l) (hold .0, good .hold (stateOf t k) (hold .1));
-    region = λ k q l is. rw (eqb-true q (stateOf t k) (sym (region-is k l q) ∙ is)) (holds k l .1);
-    sets = set-fits;
-    output-uses = good .output-uses;
-    next-uses = good .next-uses;
-    hold-uses = empty _;
-    delayed-uses = empty _;
-    timing-uses = filled-uses (inRows 2 (timerRow t)) (2 * timers) 8 (omega arith);
-    sets-uses = filled-uses (inRows timers (setRow t)) (t .states * timers) 128 (mul-le-mul (good .states .1) (few .at-most-four));
-  }
+  well-formed =
+      retimed t good _ _ _ _ _
+      (record {
+        hold = λ q low. rw (nothing-at q) (omega arith);
+        delayed = λ q i low is. no-member i (t .inputs) (rw (nothing-at q) at is);
+        not-idle = λ new q low none. nothing-at q;
+        timers = few .at-most-four;
+        no-timers = λ old. never old;
+        length = λ k l. let hold = holds k l in rw (length-is k l) (hold .0, good .hold (stateOf t k) (hold .1));
+        region = λ k q l is. rw (eqb-true q (stateOf t k) (sym (region-is k l q) ∙ is)) (holds k l .1);
+        sets = set-fits;
+      })
+      (empty _) (empty _) (filled-uses (inRows 2 (timerRow t)) (2 * timers) 8 (omega arith))
+      (filled-uses (inRows timers (setRow t)) (t .states * timers) 128 (mul-le-mul (good .states .1) (few .at-most-four)))
 
   has-timers : 1 ≤ t′ .timers
   unfolding asTimers

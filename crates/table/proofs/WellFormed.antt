@@ -13,7 +13,7 @@ use Rattle.table.specs.declared.Answer.{Answer}
 use Rattle.table.specs.declared.Answer.the-variants.{Passes}
 use Rattle.table.specs.Answer.{passes?}
 use Rattle.table.specs.Entries.{filledTo, zeros}
-use Rattle.table.specs.Table.{longestHold, mostTimers, member, holdOf, delayedOf, delays, lengthOf, inRegion, timerDelays, WellFormedBy, WellFormed}
+use Rattle.table.specs.Table.{longestHold, mostTimers, member, holdOf, delayedOf, delays, lengthOf, inRegion, timerDelays, timedWith, Uses, WellFormedBy, WellFormed}
 use Rattle.table.specs.Check.{below, rowAnswer, byteEntry, bytesAnswer, wordEntry, wordsAnswer, setEntry, setsAnswer, Row}
 use Rattle.table.specs.Check.{countsIn, outputField, outputRow, nextField, nextRow, holdField, holdRow, delayedField, timerSetField, timerSetRow, timersRow, timingAnswer, answerBy, tableAnswer}
 use Rattle.table.specs.Check.{timersIn, tableWith, tableOf, tableIn}
@@ -69,16 +69,16 @@ module _ (s : List ℕ) (at n limit : ℕ) (few : n ≤ 4) (e : timersRow s at n
 
 -- ---- What each kind of table has
 
--- Holds and timers, in the arrays that were read.
-record Timed (old : Bool) (t : Table) : Type 0 where
-  hold : (q : ℕ) → q < t .states → holdOf t q ≤ longestHold
-  delayed : (q i : ℕ) → q < t .states → delays t q i ≡ true → i < t .inputs
-  not-idle : old ≡ false → (q : ℕ) → q < t .states → holdOf t q ≡ 0 → delayedOf t q ≡ 0
-  timers : t .timers ≤ mostTimers
-  no-timers : old ≡ true → t .timers ≡ 0
-  length : (k : ℕ) → k < t .timers → (1 ≤ lengthOf t k) × (lengthOf t k ≤ longestHold)
-  region : (k q : ℕ) → k < t .timers → inRegion t k q ≡ true → q < t .states
-  sets : (k q i : ℕ) → k < t .timers → q < t .states → timerDelays t k q i ≡ true → i < t .inputs
+-- What is asked of holds and timers.
+pub record Timed (old : Bool) (t : Table) : Type 0 where
+  pub hold : (q : ℕ) → q < t .states → holdOf t q ≤ longestHold
+  pub delayed : (q i : ℕ) → q < t .states → delays t q i ≡ true → i < t .inputs
+  pub not-idle : old ≡ false → (q : ℕ) → q < t .states → holdOf t q ≡ 0 → delayedOf t q ≡ 0
+  pub timers : t .timers ≤ mostTimers
+  pub no-timers : old ≡ true → t .timers ≡ 0
+  pub length : (k : ℕ) → k < t .timers → (1 ≤ lengthOf t k) × (lengthOf t k ≤ longestHold)
+  pub region : (k q : ℕ) → k < t .timers → inRegion t k q ≡ true → q < t .states
+  pub sets : (k q i : ℕ) → k < t .timers → q < t .states → timerDelays t k q i ≡ true → i < t .inputs
 
 -- No set is empty of what it has not got.
 none-in : (i n : ℕ) → member 0 i ≡ true → i < n
@@ -175,6 +175,36 @@ made-well old s c n head timed =
       timing-uses = filled-uses (wordEntry s (holdField c)) (2 * n) 8 (omega arith);
       sets-uses = filled-uses (wordEntry s (timerSetField c n)) (c .states * n) 128 rows;
     }
+
+-- A table with other holds or timers is well formed where these are.
+pub retimed : {old other : Bool} (t : Table) → WellFormedBy old t → (hold delayed : List ℕ) (timers : ℕ) (timing sets : List ℕ) →
+    Timed other (timedWith t hold delayed timers timing sets) →
+    Uses (if timers =? 0 then t .states else 0) 32 hold → Uses (if timers =? 0 then t .states else 0) 32 delayed →
+    Uses (2 * timers) 8 timing → Uses (t .states * timers) 128 sets →
+    WellFormedBy other (timedWith t hold delayed timers timing sets)
+retimed t ok hold delayed timers timing sets timed hold-uses delayed-uses timing-uses sets-uses = record {
+  states = ok .states;
+  inputs = ok .inputs;
+  outputs = ok .outputs;
+  initial = ok .initial;
+  bound = ok .bound;
+  output = ok .output;
+  next = ok .next;
+  hold = timed .hold;
+  delayed = timed .delayed;
+  not-idle = timed .not-idle;
+  timers = timed .timers;
+  no-timers = timed .no-timers;
+  length = timed .length;
+  region = timed .region;
+  sets = timed .sets;
+  output-uses = ok .output-uses;
+  next-uses = ok .next-uses;
+  hold-uses = hold-uses;
+  delayed-uses = delayed-uses;
+  timing-uses = timing-uses;
+  sets-uses = sets-uses;
+}
 
 pub well-formed-by : (old : Bool) (s : List ℕ) → answerBy old s ≡ Passes → WellFormedBy old (tableIn s)
 well-formed-by old s e =
