@@ -89,7 +89,7 @@ returns c =
     let timers = holders .before in
     let places = timers .before .places-of .ensures in
     let counts = timers .before .before .before in
-    table-made (counts .before .before .args .s .now) _ _ (counts .counts-in .ensures) places _ _ _ _ _ _ _ _ _ _
+    table-made _ (counts .before .before .args .s .now) _ _ (counts .counts-in .ensures) places _ _ refl refl refl refl
     (c .before .before .before .before .before .before .before .before .before .before .before .before .before .number32 .ensures) (timers .timers-in .ensures _ (places .hold)) (holders .holders-of .ensures) (omega (arith, places .hold))
     (c .before .before .before .before .before .before .before .before .before .before .before .fill-output .ensures) (c .before .before .before .before .before .before .before .before .before .fill-next .ensures) (c .before .before .before .before .before .before .before .fill-state .ensures) (c .before .before .before .before .before .fill-state2 .ensures)
     (c .before .before .before .fill-timing .ensures) (c .fill-sets .ensures)
