@@ -36,13 +36,17 @@ pub record Holding (t : Table) (state polled entry start : ℕ) : Type 0 where
   pub delayed : delays t state polled ≡ true
   pub begun : start < entry + holdOf t state
 
-pub record History (t : Table) (slots : ℕ → Machine) (m : Machine) (now : ℕ) : Type 0 where
-  pub entered : m .entry ≤ m .start
-  pub begun : m .start ≤ now
-  pub state : (k : ℕ) → m .start ≤ k → k < now → (slots k) .state ≡ m .state
-  pub input : (k : ℕ) → m .change ≤ k → k < now → (slots k) .input ≡ m .input
-  pub polled : 0 < m .phase → PolledIn slots (m .polled) (m .start) now
-  pub held : NoRegions t → m .phase ≡ 2 → Holding t (m .state) (m .polled) (m .entry) (m .start)
+-- By the numbers of a machine, so that a record that changes none of them hands it on as it is.
+pub record Behind (t : Table) (slots : ℕ → Machine) (phase q i p change entry start now : ℕ) : Type 0 where
+  pub entered : entry ≤ start
+  pub begun : start ≤ now
+  pub state : (k : ℕ) → start ≤ k → k < now → (slots k) .state ≡ q
+  pub input : (k : ℕ) → change ≤ k → k < now → (slots k) .input ≡ i
+  pub polled : 0 < phase → PolledIn slots p start now
+  pub held : NoRegions t → phase ≡ 2 → Holding t q p entry start
+
+abbrev pub History : (t : Table) (slots : ℕ → Machine) (m : Machine) (now : ℕ) → Type 0
+History t slots m now = Behind t slots (m .phase) (m .state) (m .input) (m .polled) (m .change) (m .entry) (m .start) now
 
 holding : (t : Table) (m : Machine) (time : ℕ) → m .start < time → NoRegions t → 2 + verdict t m time ≡ 2 →
     Holding t (m .state) (m .polled) (m .entry) (m .start)
@@ -124,11 +128,4 @@ module _ (t : Table) (slots : ℕ → Machine) where
     polled = λ l. absurd (omega arith);
     held = λ none e. absurd (omega arith);
   }
-  onward m (End time) taken h = record {
-    entered = h .entered;
-    begun = h .begun;
-    state = h .state;
-    input = h .input;
-    polled = h .polled;
-    held = h .held;
-  }
+  onward m (End time) taken h = h
