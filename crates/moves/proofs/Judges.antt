@@ -7,12 +7,18 @@ use lib.ListN.{length}
 use denote.Enum.Declared.{tagOf}
 use types.Run.{OneOf, miss}
 use Rattle.table.specs.Check.{tableIn}
+use Rattle.table.specs.Under.{underTable}
+use Rattle.reaction.specs.Reaction.{forHolds}
 use Rattle.moves.proofs.Judged as JudgedT
 use Rattle.moves.specs.declared.Judged.{Judged}
 use Rattle.moves.specs.declared.Judged.the-variants.{Passes, TableRefused, HasTimers, UnknownState, UnknownInput, TooManyMoves, LeavesStates, NoRoom}
 use Rattle.moves.specs.declared.Answer.the-variants.{Reacts, Refused}
 use Rattle.moves.specs.Answer.{judgedPasses?}
-use Rattle.moves.specs.Moves.{judgeOf, reactionOver, sumsOver, pathOver, movesOf, sumsAfter, pathAfter}
+use Rattle.moves.specs.Moves.{judge, judgeOf, reactionOver, sumsOver, pathOver, movesOf, sumsAfter, pathAfter}
+
+pub judges-on : (s : List ℕ) (P A n sums path : ℕ) → judgeOf s P A n sums path ≡ underTable TableRefused (forHolds HasTimers (λ t. judge t P A n sums path)) s
+unfolding judgeOf
+judges-on s P A n sums path = refl
 
 abbrev Passed : Judged → Type 0
 Passed j = OneOf (0 ∷ []) (tagOf JudgedT.the-type j)

@@ -7,10 +7,13 @@ use native.Mathlib.Omega.{arith}
 use borrow.Author.Tests.{eq-eqb, ne-eqb}
 use Rattle.wire.specs.Choice.{_<?_, if_then_else_}
 use Rattle.wire.proofs.Apart.{apart}
+use Rattle.table.specs.declared.Answer as table
 use Rattle.table.specs.declared.Answer.the-variants.{Passes}
 use Rattle.table.specs.declared.Table.{Table}
 use Rattle.table.specs.Check.{tableAnswer, tableIn}
-use Rattle.table.proofs.Under.{under-passes, under-passed}
+use Rattle.table.specs.Under.{underTable}
+use Rattle.table.proofs.Answers.{Passed, Refused}
+use Rattle.table.proofs.Under.{under-passes, under-passed, passed-up, goes-under}
 use Rattle.table.proofs.WellFormed.{well-formed}
 use Rattle.reaction.specs.declared.Answer.{Answer}
 use Rattle.reaction.specs.declared.Answer.the-variants.{Reacts, TableRefused, HasTimers, UnknownState, UnknownInput, LeavesStates}
@@ -26,6 +29,19 @@ module _ {A : Type 0} (timers : A) (under : Table → A) (t : Table) where
   pub has-timers : (t .timers ≡ 0 → ⊥) → forHolds timers under t ≡ timers
   unfolding forHolds
   has-timers other = rw (ne-eqb (t .timers) 0 other)
+
+-- An entry that is what is made under a table, by what the table's check answered.
+module _ {A : Type 0} (refused : table.Answer → A) (under : Table → A) (s : List ℕ) (entry : A) (on : entry ≡ underTable refused under s)
+    {x : table.Answer} (is : x ≡ tableAnswer s) where
+  pub table-refused : Refused x → refused x ≡ entry
+  table-refused h = passed-up refused under s is h ∙ sym on
+
+  pub table-passed : Passed x → {a : A} → a ≡ under (tableIn s) → a ≡ entry
+  table-passed h e = goes-under refused under s is h e ∙ sym on
+
+pub reacts-on : (s : List ℕ) (P A : ℕ) → reactOf s P A ≡ underTable TableRefused (forHolds HasTimers (λ t. reactionOf t P A)) s
+unfolding reactOf
+reacts-on s P A = refl
 
 module _ (s : List ℕ) (e : tableAnswer s ≡ Passes) (P A : ℕ) where
   pub entry-means : tableIn s .timers ≡ 0 → (r : Answer) → r ≡ reactOf s P A → Means (tableIn s) P A r
