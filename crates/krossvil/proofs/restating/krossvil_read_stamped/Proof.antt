@@ -13,8 +13,7 @@ code-requires c κs = code-fits (stamped-writer _) _ (c .before .before .before 
 returns : tie.Need-returns
 returns c =
     let wrote = c .before .before .before .before .before .before in
-    let args = wrote .before .before .before .before .before .before .args in
-    refusal-owed (stamped-writer _) (args .journal .now) (args .answer .now) (wrote .before .before .room-beside .ensures .0) (wrote .read .ensures)
+    refusal-owed (stamped-writer _) _ _ (wrote .before .before .room-beside .ensures .0) (wrote .read .ensures)
     (c .before .before .before .match .keys2) (c .before .before .number .ensures) (c .before .place .ensures) (c .code .ensures)
 
 cast-bytes : tie.Need-cast-bytes

@@ -13,8 +13,7 @@ code-requires c κs = code-fits (convert-writer _) _ (c .before .before .before 
 returns : tie.Need-returns
 returns c =
     let wrote = c .before .before .before .before .before .before in
-    let args = wrote .before .before .before .before .before .before .args in
-    refusal-owed (convert-writer _) (args .converted .now) (args .answer .now) (wrote .before .before .room-beside .ensures .0) (wrote .convert .ensures)
+    refusal-owed (convert-writer _) _ _ (wrote .before .before .room-beside .ensures .0) (wrote .convert .ensures)
     (c .before .before .before .match .keys2) (c .before .before .number .ensures) (c .before .place .ensures) (c .code .ensures)
 
 returns-2 : tie.Need-returns-2
