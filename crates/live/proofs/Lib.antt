@@ -1,0 +1,5 @@
+pub mod Numbers
+pub mod Forms
+pub mod WaysOut
+pub mod Known
+pub mod Giving

@@ -1,0 +1,3 @@
+pub mod Memory
+pub mod Live
+pub mod Answer
