@@ -3,3 +3,4 @@ pub mod Forms
 pub mod WaysOut
 pub mod Known
 pub mod Giving
+pub mod InRun

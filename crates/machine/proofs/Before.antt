@@ -47,10 +47,10 @@ first-entered initial input = record {
   regions = four (λ k. entryInto (start initial input .regions) k ≤ 0) (omega arith) (omega arith) (omega arith) (omega arith);
 }
 
-later : (m : Machine) (time then′ : ℕ) → time ≤ then′ → EnteredBy m time → EnteredBy m then′
+pub later : (m : Machine) (time then′ : ℕ) → time ≤ then′ → EnteredBy m time → EnteredBy m then′
 later m time then′ l by = record { state = omega (arith, by .state); regions = λ k small. omega (arith, by .regions k small) }
 
-entered-after : (t : Table) (m : Machine) (r : Record) → EnteredBy m (timeOf r) → EnteredBy (after t m r) (timeOf r)
+pub entered-after : (t : Table) (m : Machine) (r : Record) → EnteredBy m (timeOf r) → EnteredBy (after t m r) (timeOf r)
 entered-after t m (Change time input) by = record { state = by .state; regions = by .regions }
 entered-after t m (Poll time input) by = record { state = by .state; regions = by .regions }
 entered-after t m (Test time verdict) by = record { state = by .state; regions = by .regions }
