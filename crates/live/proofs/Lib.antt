@@ -4,3 +4,4 @@ pub mod WaysOut
 pub mod Known
 pub mod Giving
 pub mod InRun
+pub mod Keeping
