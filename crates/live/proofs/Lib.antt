@@ -5,3 +5,4 @@ pub mod Known
 pub mod Giving
 pub mod InRun
 pub mod Keeping
+pub mod Slices

@@ -1,3 +1,4 @@
 pub mod Memory
 pub mod Live
 pub mod Answer
+pub mod Given
