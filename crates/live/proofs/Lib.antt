@@ -6,3 +6,4 @@ pub mod Giving
 pub mod InRun
 pub mod Keeping
 pub mod Slices
+pub mod AsWhole

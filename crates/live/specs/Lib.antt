@@ -2,3 +2,4 @@ pub mod Memory
 pub mod Live
 pub mod Answer
 pub mod Given
+pub mod Whole
