@@ -7,3 +7,4 @@ pub mod InRun
 pub mod Keeping
 pub mod Slices
 pub mod AsWhole
+pub mod Counts

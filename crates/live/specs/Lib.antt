@@ -3,3 +3,4 @@ pub mod Live
 pub mod Answer
 pub mod Given
 pub mod Whole
+pub mod Agreeing
