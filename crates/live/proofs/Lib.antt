@@ -8,3 +8,4 @@ pub mod Keeping
 pub mod Slices
 pub mod AsWhole
 pub mod Counts
+pub mod Agree
