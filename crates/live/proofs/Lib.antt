@@ -9,3 +9,4 @@ pub mod Slices
 pub mod AsWhole
 pub mod Counts
 pub mod Agree
+pub mod AnyLength
