@@ -11,3 +11,4 @@ pub mod Tights
 pub mod Salvages
 pub mod Reports
 pub mod Several
+pub mod Lives

@@ -57,7 +57,7 @@ owed-none reply none n p en ep before code e =
 
 -- `a` is the entry's answer by its contract, with its number and its place.
 module _ {A : Type 0} (replyOf : A → Reply) (right a : A) (is : a ≡ right) (n p : ℕ) (en : n ≡ numberIn (replyOf a)) (ep : p ≡ placeIn (replyOf a)) where
-  pub fits : Fits (replyOf right) → (n ≤ 35) × (p < 2 ^ 32)
+  pub fits : Fits (replyOf right) → (n ≤ 36) × (p < 2 ^ 32)
   fits h = (rw (en, is) (h .number), rw (ep, is) (h .place))
 
   pub refused : valuesIn (replyOf a) ≡ [] → (before : List ℕ) (code : ℕ) → code ≡ numbered n p → Owed (replyOf right) before code before

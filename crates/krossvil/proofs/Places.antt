@@ -42,7 +42,7 @@ use Rattle.krossvil.proofs.Accepting.{Numbered, table-fine}
 
 -- ---- A refusal
 
-refusal-between : (x : Refusal) → (20 ≤ numberOf x) × (numberOf x ≤ 35)
+refusal-between : (x : Refusal) → (20 ≤ numberOf x) × (numberOf x ≤ 36)
 refusal-between RunsOut = omega arith
 refusal-between UnknownField = omega arith
 refusal-between Misplaced = omega arith
@@ -62,7 +62,7 @@ pub record Refuses (reply : Reply) : Type 0 where
   pub none : valuesIn reply ≡ []
   pub numbered : Numbered reply
 
-pub plain : (number place : ℕ) → number ≤ 35 → (number =? 0) ≡ false → place ≤ 1000000 → Refuses (refuses number place)
+pub plain : (number place : ℕ) → number ≤ 36 → (number =? 0) ≡ false → place ≤ 1000000 → Refuses (refuses number place)
 plain number place n some p = record { fits = record { number = n; place = omega arith }; none = refl; numbered = some }
 
 pub of-record : (x : Refusal) (place : ℕ) → place ≤ 1000000 → Refuses (refuses (numberOf x) place)

@@ -53,7 +53,7 @@ Says m = Tells replyOf Left 4 m × Small replyOf m
 
 -- ---- By the journal check's answer
 
-report-said : (kept dropped number place : ℕ) → kept ≤ longestJournal → dropped ≤ longestJournal → number ≤ 35 → place ≤ longestJournal →
+report-said : (kept dropped number place : ℕ) → kept ≤ longestJournal → dropped ≤ longestJournal → number ≤ 36 → place ≤ longestJournal →
     Gives replyOf Left 4 (Salvaged kept dropped number place) × ((k : ℕ) → getD (kept ∷ dropped ∷ number ∷ place ∷ []) k 0 < 2 ^ 32)
 report-said kept dropped number place h₁ h₂ h₃ h₄ =
     (record { values = kept ∷ dropped ∷ number ∷ place ∷ []; count = refl; is = refl; kept = miss (1 ∷ 2 ∷ []) 0 tt }, go)

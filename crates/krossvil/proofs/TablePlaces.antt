@@ -1,4 +1,4 @@
--- Refusal numbers are at most 35 and places are below 2^32, so that both fit into one number of 64 bits: the table's.
+-- Refusal numbers are at most 36 and places are below 2^32, so that both fit into one number of 64 bits: the table's.
 use mathlib.Core.Path.{_≡_, refl, sym}
 use mathlib.Core.List.{List, []}
 use mathlib.Core.Bool.{Bool, true, false, not, _&&_}

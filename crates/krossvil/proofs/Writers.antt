@@ -156,7 +156,7 @@ module _ (w : Writer) where
         go (refused x) t l = t
         go (made x bytes) t l = absurd (t .kept l)
 
-    pub code-fits : w .Left a → {n p : ℕ} → n ≡ numberIn (w .replyOf a) → p ≡ placeIn (w .replyOf a) → (n ≤ 35) × (p < 2 ^ 32)
+    pub code-fits : w .Left a → {n p : ℕ} → n ≡ numberIn (w .replyOf a) → p ≡ placeIn (w .replyOf a) → (n ≤ 36) × (p < 2 ^ 32)
     code-fits left en ep = let f = left-refuses left .fits in (rw en (f .number), rw ep (f .place))
 
     pub value-small : Small (w .replyOf) (w .makes) → {b : w .Answers} → a ≡ b → (i : ℕ) → getD (valuesIn (w .replyOf b)) i 0 < 2 ^ 32

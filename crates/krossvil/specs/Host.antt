@@ -30,6 +30,10 @@ use Rattle.tally.specs.Tally.{tallyIn}
 use Rattle.tally.specs.Sums.{summed}
 use Rattle.report.specs.Report.{mostJournals}
 use Rattle.report.specs.Rows.{placesOf, rowOf}
+use Rattle.live.specs.declared.Live.the-variants as taken
+use Rattle.live.specs.declared.NotTaken.the-variants.{NoRoom}
+use Rattle.live.specs.Answer as live
+use Rattle.live.specs.Live.{liveOf, liveMemory, watchOf, watchMemory}
 use Rattle.reaction.specs.Answer as reaction
 use Rattle.reaction.specs.Reaction.{reactOf}
 use Rattle.moves.specs.Answer as moves
@@ -134,3 +138,22 @@ reportRow table records = rowOf (tableIn table) (tallyIn (tableIn table) (runOve
 
 abbrev pub reportAfter : List ℕ → List ℕ → List ℕ → List ℕ
 reportAfter table records report = bufferAfter (reportTold table records report) (summed report (reportRow table records)) report
+
+-- ---- Live runs, whose memory the host keeps
+
+abbrev pub liveTold : (table memory event buffer : List ℕ) → ℕ → Reply
+liveTold table memory event = madeTold live.replyOf (taken.Not NoRoom) (liveOf table memory event)
+
+abbrev pub liveRecord : (table memory event buffer : List ℕ) → ℕ → List ℕ
+liveRecord table memory event = madeBuffer live.replyOf (taken.Not NoRoom) (liveOf table memory event)
+
+-- The memory changes only if the host is told of a success, as every buffer does.
+abbrev pub liveKeeps : (table memory event buffer : List ℕ) → ℕ → List ℕ
+liveKeeps table memory event buffer room =
+    bufferAfter (liveTold table memory event buffer room) (liveMemory table memory event (length buffer)) memory
+
+abbrev pub watchTold : (table memory bytes : List ℕ) → ℕ → Reply
+watchTold table memory bytes room = told (live.watchReply (watchOf table memory bytes)) room
+
+abbrev pub watchKeeps : (table memory bytes : List ℕ) → ℕ → List ℕ
+watchKeeps table memory bytes room = bufferAfter (watchTold table memory bytes room) (watchMemory table memory bytes) memory

@@ -10,7 +10,7 @@ use crate::telling::tell;
 pub const ACCEPTED_ANSWER: usize = 28;
 
 // The numbers of acceptance in the order in which they are told.
-fn in_order(n: journal::Numbers) -> [u32; 7]
+pub fn in_order(n: journal::Numbers) -> [u32; 7]
     ensures { λ r. ⌜ r ≡ journal-answer.listed n ⌝ }
 {
     [

@@ -1,0 +1,75 @@
+// Live runs: one event or one record at a time, over a memory that the host keeps.
+ghost use mathlib.Core.Path.{_≡_};
+ghost use lib.ListN.{length};
+ghost use Rattle.live.specs.Answer as live-answer;
+ghost use Rattle.krossvil.specs.Host.{told, codeOf, answerAfter, liveTold, liveRecord, liveKeeps, watchTold, watchKeeps};
+ghost use Rattle.krossvil.specs.Small.{Refusing};
+use crate::checking::ACCEPTED_ANSWER;
+use crate::checking::in_order;
+use crate::telling::code;
+use crate::telling::room_beside;
+use crate::telling::tell;
+
+// Bytes of answer that a live run needs: six numbers.
+const LIVE_ANSWER: usize = 24;
+
+#[no_mangle]
+pub extern "C" fn krossvil_live(
+    table: &[u8],
+    memory: &mut [u32],
+    event: &[u8],
+    out: &mut [u8],
+    answer: &mut [u8],
+) -> u64
+    ensures code { λ r. ⌜ r ≡ codeOf (liveTold (now (table .entry)) (now (memory .entry)) (now (event .entry)) (now (out .entry)) (length (now (answer .entry)))) ⌝ }
+    ensures bytes { λ _. ⌜ now (answer .exit) ≡ answerAfter (liveTold (now (table .entry)) (now (memory .entry)) (now (event .entry)) (now (out .entry)) (length (now (answer .entry)))) (now (answer .entry)) ⌝ }
+    ensures written { λ _. ⌜ now (out .exit) ≡ liveRecord (now (table .entry)) (now (memory .entry)) (now (event .entry)) (now (out .entry)) (length (now (answer .entry))) ⌝ }
+    ensures kept { λ _. ⌜ now (memory .exit) ≡ liveKeeps (now (table .entry)) (now (memory .entry)) (now (event .entry)) (now (out .entry)) (length (now (answer .entry))) ⌝ }
+{
+    let room = room_beside(answer.len(), LIVE_ANSWER, out.len());
+    let done = live::take_event(table, memory, event, &mut out[..room]);
+    let live::Live::Taken {
+        size,
+        state,
+        output,
+        phase,
+        left,
+        deadline,
+    } = done
+    else {
+        return code(done.number(), done.place());
+    };
+    let bytes = size as u32;
+    let numbers = [bytes, state, output, phase, left, deadline];
+    tell(&numbers, answer)
+}
+
+fn tell_watched(done: live::Watched, answer: &mut [u8]) -> u64
+    requires { ⌜ Refusing done ⌝ }
+    ensures code { λ r. ⌜ r ≡ codeOf (told (live-answer.watchReply done) (length (now (answer .entry)))) ⌝ }
+    ensures bytes { λ _. ⌜ now (answer .exit) ≡ answerAfter (told (live-answer.watchReply done) (length (now (answer .entry)))) (now (answer .entry)) ⌝ }
+{
+    let live::Watched::Taken(n) = done else {
+        return code(done.number(), done.place());
+    };
+    let numbers = in_order(n);
+    tell(&numbers, answer)
+}
+
+// The memory may change only if the answer is long enough: where it is not, the check only looks.
+#[no_mangle]
+pub extern "C" fn krossvil_watch(
+    table: &[u8],
+    memory: &mut [u32],
+    bytes: &[u8],
+    answer: &mut [u8],
+) -> u64
+    ensures code { λ r. ⌜ r ≡ codeOf (watchTold (now (table .entry)) (now (memory .entry)) (now (bytes .entry)) (length (now (answer .entry)))) ⌝ }
+    ensures bytes { λ _. ⌜ now (answer .exit) ≡ answerAfter (watchTold (now (table .entry)) (now (memory .entry)) (now (bytes .entry)) (length (now (answer .entry)))) (now (answer .entry)) ⌝ }
+    ensures kept { λ _. ⌜ now (memory .exit) ≡ watchKeeps (now (table .entry)) (now (memory .entry)) (now (bytes .entry)) (length (now (answer .entry))) ⌝ }
+{
+    if answer.len() < ACCEPTED_ANSWER {
+        return tell_watched(live::look_at_record(table, memory, bytes), answer);
+    }
+    tell_watched(live::watch_record(table, memory, bytes), answer)
+}
