@@ -11,7 +11,7 @@ use Rattle.wire.specs.Choice.{_=?_, if_then_else_}
 use Rattle.wire.specs.Field.{byteAt, number16At, number32At}
 use Rattle.table.specs.declared.Answer.the-variants.{Passes}
 use Rattle.table.specs.Table.{outputOf, nextOf, holdOf, delayedOf, lengthOf, regionOf, timerSetOf}
-use Rattle.table.specs.Check.{countsIn, byteEntry, wordEntry, nextField, holdField, delayedField, timerSets, claimedTimers, timersIn}
+use Rattle.table.specs.Check.{countsIn, byteEntry, wordEntry, nextField, holdField, delayedField, timerSetField, claimedTimers, timersIn}
 use Rattle.table.specs.Check.{tableWith, tableAnswer, tableIn}
 use Rattle.table.proofs.Values.{getD-filled}
 use Rattle.table.proofs.Rows.{row-stands}
@@ -123,10 +123,10 @@ module _ (s : List ℕ) (e : tableAnswer s ≡ Passes) where
       before : q * timersIn (countsIn s) s + k < countsIn s .states * timersIn (countsIn s) s
       before = row-before q _ _ k h few
 
-      pub sets-room : timerSets (countsIn s) (timersIn (countsIn s) s) + 3 + 4 * (q * timersIn (countsIn s) s + k) + 4 ≤ length s
+      pub sets-room : timerSetField (countsIn s) (timersIn (countsIn s) s) + 3 + 4 * (q * timersIn (countsIn s) s + k) + 4 ≤ length s
       sets-room = omega (arith, before, read .sets (omega (arith, before)))
 
-      pub set-at : (at : ℕ) → at ≡ timerSets (countsIn s) (timersIn (countsIn s) s) + 3 + 4 * (q * timersIn (countsIn s) s + k) →
+      pub set-at : (at : ℕ) → at ≡ timerSetField (countsIn s) (timersIn (countsIn s) s) + 3 + 4 * (q * timersIn (countsIn s) s + k) →
           number32At s at ≡ timerSetOf (tableIn s) k q
       unfolding tableWith
-      set-at at is = rw is (sym (getD-filled (wordEntry s (timerSets (countsIn s) (timersIn (countsIn s) s))) _ 128 (read .rows) _ before))
+      set-at at is = rw is (sym (getD-filled (wordEntry s (timerSetField (countsIn s) (timersIn (countsIn s) s))) _ 128 (read .rows) _ before))
