@@ -40,8 +40,8 @@ use Rattle.live.specs.declared.Live.{Live}
 use Rattle.live.specs.declared.Live.the-variants as live
 use Rattle.live.specs.declared.Watched.{Watched}
 use Rattle.live.specs.declared.Watched.the-variants as watched
-use Rattle.live.specs.Answer.{refusalOf, replyOf, watchReply}
-use Rattle.live.specs.Memory.{numbersKept, stageIn, progressIn, firstOut}
+use Rattle.live.specs.Answer.{notTakenReply, replyOf, watchReply}
+use Rattle.live.specs.Memory.{memoryLength, stageIn, progressIn, firstOut}
 use Rattle.live.specs.Live.{alone, openedBy, wentOn, recordJudged, fieldJudged, memoryJudged, judgedOf, liveMade, liveOf, liveMemory, keptAfter, keptIf, watchedBy, watchOf, watchMemory}
 use Rattle.live.proofs.Live as LiveT
 use Rattle.live.proofs.Watched as WatchedT
@@ -57,7 +57,7 @@ use Rattle.krossvil.proofs.Writers.{Writer, writer, Tells, Gives, Small
 abbrev Says : Judged → Type 0
 Says (judged.Opens input) = Unit
 Says (judged.Goes p r left) = Unit
-Says (judged.Not w) = Refuses (refusalOf w)
+Says (judged.Not w) = Refuses (notTakenReply w)
 
 misplaced : (place : ℕ) → place ≤ 8 → Says (judged.Not (why.Field Misplaced place))
 misplaced place h = of-record Misplaced place (omega arith)
@@ -111,12 +111,12 @@ module _ (F : Form) (few : Short F) where
 
   memory-says : (t : Table) (n s : List ℕ) → Says (memoryJudged F t n s)
   unfolding memoryJudged
-  memory-says t n s = go (length n <? numbersKept) (firstOut t n <? numbersKept) refl
+  memory-says t n s = go (length n <? memoryLength) (firstOut t n <? memoryLength) refl
     where
-      go : (a b : Bool) → (firstOut t n <? numbersKept) ≡ b →
+      go : (a b : Bool) → (firstOut t n <? memoryLength) ≡ b →
           Says (if a then judged.Not why.ShortMemory else if b then judged.Not (why.OutOfRange (firstOut t n)) else fieldJudged F t (stageIn n) (progressIn n) s)
       go true b e = plain 30 0 (omega arith) refl (omega arith)
-      go false true e = plain 36 (firstOut t n) (omega arith) refl (omega (arith, ltb-true (firstOut t n) numbersKept e))
+      go false true e = plain 36 (firstOut t n) (omega arith) refl (omega (arith, ltb-true (firstOut t n) memoryLength e))
       go false false e = field-says t (stageIn n) (progressIn n) s
 
   says : (table n s : List ℕ) → Says (judgedOf F table n s)
@@ -249,7 +249,7 @@ module _ (table n s answer : List ℕ) where
       go : (j : Judged) → n ≡ bufferAfter (told (watchReply (watchedBy (tableIn table) j)) (length answer)) (keptAfter (tableIn table) j n) n
       go (judged.Opens input) = rw (lt-ltb (length answer) 28 low) refl
       go (judged.Goes p r left) = rw (lt-ltb (length answer) 28 low) refl
-      go (judged.Not w) = no-change (told (refusalOf w) (length answer)) n n refl
+      go (judged.Not w) = no-change (told (notTakenReply w) (length answer)) n n refl
 
   pub watch-keeps : 28 ≤ length answer → {n′ : List ℕ} → n′ ≡ watchMemory table n s → n′ ≡ watchKeeps table n s (length answer)
   unfolding watchedBy keptAfter told bufferAfter
@@ -258,4 +258,4 @@ module _ (table n s answer : List ℕ) where
       go : (j : Judged) → keptAfter (tableIn table) j n ≡ bufferAfter (told (watchReply (watchedBy (tableIn table) j)) (length answer)) (keptAfter (tableIn table) j n) n
       go (judged.Opens input) = rw (le-ltb (length answer) 28 enough) refl
       go (judged.Goes p r left) = rw (le-ltb (length answer) 28 enough) refl
-      go (judged.Not w) = no-change (told (refusalOf w) (length answer)) n n refl
+      go (judged.Not w) = no-change (told (notTakenReply w) (length answer)) n n refl

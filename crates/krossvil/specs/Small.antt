@@ -7,7 +7,7 @@ use mathlib.Core.List.{[]}
 use Rattle.wire.specs.Reply.{Reply, numberIn, placeIn, valuesIn}
 use Rattle.live.specs.declared.Watched.{Watched}
 use Rattle.live.specs.declared.Watched.the-variants as watched
-use Rattle.live.specs.Answer.{refusalOf}
+use Rattle.live.specs.Answer.{notTakenReply}
 
 pub record Fits (reply : Reply) : Type 0 where
   pub number : numberIn reply ≤ 36
@@ -28,4 +28,4 @@ pub record Plain (reply : Reply) : Type 0 where
 
 abbrev pub Refusing : Watched → Type 0
 Refusing (watched.Taken numbers) = Unit
-Refusing (watched.Not w) = Plain (refusalOf w)
+Refusing (watched.Not w) = Plain (notTakenReply w)
