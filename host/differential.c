@@ -1,6 +1,7 @@
 /* Holds the library against the reference: seeded random tables, stimuli, journals, stamped and short journals, and sets,
  * sound and damaged. For each case both are called with their own copies of the same bytes, and the value returned and
- * every byte of every buffer are compared, guard bytes included.
+ * every byte of every buffer are compared, guard bytes included. Every stimulus and every journal is then given once more field by
+ * field, to a live run or a live check, which must say the same as the whole.
  *
  *     differential [CASES [SEED]]
  *
@@ -23,6 +24,8 @@ uint64_t second_shorten(const uint8_t *, size_t, const uint8_t *, size_t, uint8_
 uint64_t second_lengthen(const uint8_t *, size_t, const uint8_t *, size_t, uint8_t *, size_t, uint8_t *, size_t);
 uint64_t second_salvage(const uint8_t *, size_t, const uint8_t *, size_t, uint8_t *, size_t, uint8_t *, size_t);
 uint64_t second_report_add(const uint8_t *, size_t, const uint8_t *, size_t, uint64_t *, size_t);
+uint64_t second_live(const uint8_t *, size_t, uint32_t *, size_t, const uint8_t *, size_t, uint8_t *, size_t, uint8_t *, size_t);
+uint64_t second_watch(const uint8_t *, size_t, uint32_t *, size_t, const uint8_t *, size_t, uint8_t *, size_t);
 #define krossvil_check_table second_check_table
 #define krossvil_check_journal second_check_journal
 #define krossvil_run second_run
@@ -36,6 +39,8 @@ uint64_t second_report_add(const uint8_t *, size_t, const uint8_t *, size_t, uin
 #define krossvil_lengthen second_lengthen
 #define krossvil_salvage second_salvage
 #define krossvil_report_add second_report_add
+#define krossvil_live second_live
+#define krossvil_watch second_watch
 #else
 #include "krossvil.h"
 #endif
@@ -54,7 +59,8 @@ enum {
     MOST_RECORDS = 8190, /* between opening and end of a journal, and of a stamped one */
     MOST_SHORT = 10921,  /* and of a short one */
     ROOM = 2 * 65536,
-    MOST_PIECES = 11000
+    MOST_PIECES = 11000,
+    KEPT = 17 /* numbers of the memory of a live run */
 };
 
 /* ---- chance ---- */
@@ -481,7 +487,7 @@ static void draw_table(struct plan *plan, struct bytes *bytes, enum table_kind k
 /* ---- journals, stimuli, stamped and short journals ---- */
 
 /* What an entry takes beside the table, or writes. */
-enum form { JOURNAL, STIMULUS, STAMPED, SHORT, TABLE, REPORT, SUMS, NOTHING };
+enum form { JOURNAL, STIMULUS, STAMPED, SHORT, TABLE, REPORT, SUMS, MEMORY, NOTHING };
 
 static const char *const form_names[] = { "journal", "stimulus", "stamped journal", "short journal" };
 static const size_t limits[] = { JOURNAL_LIMIT, STIMULUS_LIMIT, STAMPED_LIMIT, SHORT_LIMIT };
@@ -799,15 +805,16 @@ static void damage_pieces(const struct plan *plan, enum form form)
 
 enum entry {
     CHECK_TABLE, CHECK_JOURNAL, RUN, REACTION, CONVERT_TABLE, READ_STAMPED, CHECK_SHORT, SHORTEN, LENGTHEN, SALVAGE, REPORT_ADD,
-    REACTION_MOVES, REACTION_TIGHT, ENTRIES
+    REACTION_MOVES, REACTION_TIGHT, LIVE, WATCH, ENTRIES
 };
 
 static const struct {
     const char *name;
     enum form takes, writes;
     size_t answer_size;
-    unsigned share, damaged; /* percent: of the random cases, and how many of these have a damaged table; the last two have no share,
-                                but follow each REACTION, REACTION_MOVES with a table of its own */
+    unsigned share, damaged; /* percent: of the random cases, and how many of these have a damaged table; the last four have no share:
+                                two follow each REACTION, REACTION_MOVES with a table of its own, and LIVE and WATCH follow each
+                                stimulus and each journal, field by field */
 } entries[ENTRIES] = {
     [CHECK_TABLE] = { "check_table", NOTHING, NOTHING, 0, 13, 65 },
     [CHECK_JOURNAL] = { "check_journal", JOURNAL, NOTHING, 28, 19, 11 },
@@ -822,6 +829,8 @@ static const struct {
     [REPORT_ADD] = { "report_add", JOURNAL, REPORT, 0, 5, 25 },
     [REACTION_MOVES] = { "reaction_moves", NOTHING, SUMS, 12, 0, 20 },
     [REACTION_TIGHT] = { "reaction_tight", NOTHING, NOTHING, 12, 0, 0 },
+    [LIVE] = { "live", STIMULUS, MEMORY, 24, 0, 0 },
+    [WATCH] = { "watch", JOURNAL, MEMORY, 28, 0, 0 },
 };
 
 /* Entries of one shape, the reference's and the library's. */
@@ -846,8 +855,8 @@ struct call {
     const struct bytes *table, *input; /* input: what it takes beside the table */
     uint32_t states, inputs, moves;
     size_t output_len, answer_len; /* in bytes; output: what it writes beside the answer */
-    size_t path_len;               /* a second output, of REACTION_MOVES */
-    const uint64_t *report;        /* what stands in an output of numbers beforehand, or NULL: anything */
+    size_t path_len;               /* a second output: the path of REACTION_MOVES, the record of LIVE */
+    const void *beforehand;        /* what stands in an output of numbers beforehand, or NULL: anything */
     const struct bytes *right;     /* the output that a success must have, where that is known beforehand, or NULL */
     const struct bytes *right_path;
 };
@@ -881,12 +890,12 @@ static uint8_t fill(const struct lent *lent, size_t at)
     return (uint8_t)(lent->salt + 37 * at + (at >> 8));
 }
 
-static void lend(struct lent *lent, size_t len, size_t before, uint8_t salt, const uint64_t *content)
+static void lend(struct lent *lent, size_t len, size_t before, uint8_t salt, const void *content)
 {
     lent->len = len;
     lent->before = before;
     lent->salt = salt;
-    lent->content = (const uint8_t *)content;
+    lent->content = content;
     for (size_t k = 0; k < len + 2 * GUARD; k++)
         lent->at[k] = fill(lent, k);
 }
@@ -948,6 +957,15 @@ static void call_side(const struct call *call, bool library, struct side *side)
         side->returned = (library ? krossvil_report_add : reference_report_add)(
             table, table_len, input, input_len, side->output.numbers + side->output.before / 8, output_len / 8);
         break;
+    case LIVE:
+        side->returned = (library ? krossvil_live : reference_live)(
+            table, table_len, side->output.sums + side->output.before / 4, output_len / 4, input, input_len,
+            side->path.at + side->path.before, call->path_len, answer, answer_len);
+        break;
+    case WATCH:
+        side->returned = (library ? krossvil_watch : reference_watch)(
+            table, table_len, side->output.sums + side->output.before / 4, output_len / 4, input, input_len, answer, answer_len);
+        break;
     default:
         side->returned = rewrites[call->entry][library](table, table_len, input, input_len, output, output_len, answer,
                                                         answer_len);
@@ -996,14 +1014,17 @@ static size_t output_size(const struct call *call, const struct side *side)
     case TABLE: return call->table->len;
     case REPORT: return 8 * report_size(call->table);
     case SUMS: return 4 * (size_t)call->moves * call->table->at[3];
+    case MEMORY: return 4 * KEPT;
     default: return length_by(call->entry, side->answer.at + side->answer.before);
     }
 }
 
-/* And of its path buffer. */
+/* And of its second output: the path of several moves, or the record of a live run. */
 static size_t path_size(const struct call *call, const struct side *side)
 {
-    return side->returned == 0 && call->entry == REACTION_MOVES ? answer_number(&side->answer, 2) : 0;
+    if (side->returned != 0 || (call->entry != REACTION_MOVES && call->entry != LIVE))
+        return 0;
+    return answer_number(&side->answer, call->entry == LIVE ? 0 : 2);
 }
 
 /* What must hold of a salvaged journal, by the journal check of the reference. */
@@ -1030,7 +1051,7 @@ static const char *badly_salvaged(const struct call *call, const struct side *si
  * of a state to its dwell, and there is an entry for each move and one for the initial state. All sums are modulo 2^64. */
 static const char *badly_added(const struct call *call, const struct side *side)
 {
-    const uint64_t *after = side->output.numbers + side->output.before / 8, *before = call->report;
+    const uint64_t *after = side->output.numbers + side->output.before / 8, *before = call->beforehand;
     size_t states = call->table->at[3], inputs_of_state = call->table->at[4];
     uint64_t dwell = 0, entered = 0;
     uint8_t answer[28];
@@ -1189,7 +1210,7 @@ static size_t differs_at(const struct lent *a, const struct lent *b)
 }
 
 static uint64_t passed, mismatches;
-enum { NUMBERS = 36 }; /* one more than the largest of a refusal */
+enum { NUMBERS = 37 }; /* one more than the largest of a refusal */
 static uint64_t histogram[ENTRIES][NUMBERS], other_numbers;
 
 static void print_bytes(const char *name, const uint8_t *bytes, size_t len)
@@ -1229,16 +1250,16 @@ static void print_case(const char *label, const struct call *call, const char *r
         print_bytes(form_names[takes], call->input->at, call->input->len);
     if (calculators[call->entry][0] != NULL || call->entry == REACTION_MOVES)
         printf("  states %08" PRIX32 ", inputs %08" PRIX32 ", moves %" PRIu32 "\n", call->states, call->inputs, call->moves);
-    if (call->entry == REACTION_MOVES) {
-        printf("  path buffer of %zu bytes\n", call->path_len);
+    if (call->entry == REACTION_MOVES || call->entry == LIVE) {
+        printf("  path or record buffer of %zu bytes\n", call->path_len);
         if (reference_side.returned == 0)
-            print_bytes("reference's path", reference_side.path.at + reference_side.path.before,
+            print_bytes("reference's path or record", reference_side.path.at + reference_side.path.before,
                         path_size(call, &reference_side));
     }
     if (entries[call->entry].writes != NOTHING) {
         printf("  output buffer of %zu bytes\n", call->output_len);
-        if (call->report != NULL)
-            print_bytes("report beforehand", (const uint8_t *)call->report, call->output_len);
+        if (call->beforehand != NULL)
+            print_bytes("numbers beforehand", call->beforehand, call->output_len);
         if (reference_side.returned == 0)
             print_bytes("reference's output", reference_side.output.at + reference_side.output.before,
                         output_size(call, &reference_side));
@@ -1254,10 +1275,10 @@ static void print_case(const char *label, const struct call *call, const char *r
 static bool compare(const char *label, const struct call *call, const uint64_t *wanted)
 {
     enum form writes = entries[call->entry].writes;
-    size_t shift = below(8), before = GUARD - (writes == REPORT ? shift % 2 * 8 : writes == SUMS ? shift % 4 * 4 : shift);
+    size_t shift = below(8), before = GUARD - (writes == REPORT ? shift % 2 * 8 : writes == SUMS || writes == MEMORY ? shift % 4 * 4 : shift);
     uint8_t salt = (uint8_t)below(256);
-    lend(&reference_side.output, call->output_len, before, salt, call->report);
-    lend(&library_side.output, call->output_len, before, salt, call->report);
+    lend(&reference_side.output, call->output_len, before, salt, call->beforehand);
+    lend(&library_side.output, call->output_len, before, salt, call->beforehand);
     lend(&reference_side.answer, call->answer_len, before, salt, NULL);
     lend(&library_side.answer, call->answer_len, before, salt, NULL);
     lend(&reference_side.path, call->path_len, GUARD - shift, salt, NULL);
@@ -1577,7 +1598,7 @@ static void count_twice(const char *label)
 /* Adds journals to a report in this order, one after another; returns how many were taken. */
 static unsigned add_all(const char *label, const struct bytes *journals, const unsigned *order, size_t count, uint64_t *report)
 {
-    struct call call = { .entry = REPORT_ADD, .table = &table, .output_len = 8 * report_size(&table), .report = report };
+    struct call call = { .entry = REPORT_ADD, .table = &table, .output_len = 8 * report_size(&table), .beforehand = report };
     unsigned taken = 0;
     for (size_t k = 0; k < count; k++) {
         call.input = &journals[order[k]];
@@ -1707,6 +1728,229 @@ static void several_moves_case(const char *label)
     ask_of_one_move(label, &call);
 }
 
+/* ---- live runs ---- */
+
+/* Stimuli and journals that were given field by field, to the end of what the whole has to say. */
+static uint64_t walked[ENTRIES];
+
+#ifdef SELF
+enum { WALK = 40 }; /* fields: the reference stands on both sides, and the faults are many */
+#else
+enum { WALK = MOST_PIECES };
+#endif
+
+enum { MEMORY_ROOM = KEPT + 8, RECORD_ROOM = 8 };
+
+static void fail(const char *label, const char *reason, const struct bytes *bytes)
+{
+    if (mismatches == 0) {
+        printf("first mismatch: %s: %s\n", label, reason);
+        print_bytes("table", table.at, table.len);
+        print_bytes("field or whole", bytes->at, bytes->len);
+    }
+    mismatches++;
+}
+
+/* What becomes of one field: the code, the memory, the record and the answer. */
+struct turn {
+    uint64_t code;
+    uint32_t memory[KEPT];
+    uint8_t record[RECORD_ROOM], answer[28];
+};
+
+static void turn_of(bool library, enum entry entry, const struct bytes *field, const uint32_t *memory, struct turn *turn)
+{
+    memset(turn, 0, sizeof *turn);
+    memcpy(turn->memory, memory, sizeof turn->memory);
+    if (entry == LIVE)
+        turn->code = (library ? krossvil_live : reference_live)(table.at, table.len, turn->memory, KEPT, field->at, field->len,
+                                                                turn->record, RECORD_ROOM, turn->answer, 24);
+    else
+        turn->code = (library ? krossvil_watch : reference_watch)(table.at, table.len, turn->memory, KEPT, field->at, field->len,
+                                                                  turn->answer, 28);
+}
+
+/* Gives a field to both sides, which must agree; the library's turn is told. Some go the long way, with guards around each buffer. */
+static void take_turn(const char *label, enum entry entry, const struct bytes *field, const uint32_t *memory, bool guarded,
+                      struct turn *turn)
+{
+    struct turn other;
+    turn_of(false, entry, field, memory, &other);
+    turn_of(true, entry, field, memory, turn);
+    if (memcmp(&other, turn, sizeof other) != 0)
+        fail(label, entry == LIVE ? "live runs differ" : "live checks differ", field);
+    if (!guarded)
+        return;
+    struct call call = { .entry = entry, .table = &table, .input = field, .output_len = 4 * KEPT, .beforehand = memory,
+                         .path_len = entry == LIVE ? RECORD_ROOM : 0, .answer_len = entries[entry].answer_size };
+    compare(label, &call, NULL);
+}
+
+/* The field at `at` by its head; one that runs out is all that is left. */
+static void cut_field(const struct bytes *whole, size_t at, struct bytes *field)
+{
+    size_t left = whole->len - at, size = left;
+    if (left >= 3 && 3 + ((size_t)whole->at[at + 1] << 8 | whole->at[at + 2]) < left)
+        size = 3 + ((size_t)whole->at[at + 1] << 8 | whole->at[at + 2]);
+    field->len = size;
+    memcpy(field->at, whole->at + at, size);
+}
+
+/* A record that live has written is watched: it is taken, and the memories are equal. */
+static void watch_record(const char *label, const struct turn *live, uint32_t *memory, bool guarded)
+{
+    static struct bytes record;
+    struct turn turn;
+    record.len = number_in(live->answer, 0);
+    memcpy(record.at, live->record, RECORD_ROOM);
+    take_turn(label, WATCH, &record, memory, guarded, &turn);
+    memcpy(memory, turn.memory, sizeof turn.memory);
+    if (turn.code != 0 || memcmp(turn.memory, live->memory, sizeof turn.memory) != 0)
+        fail(label, "what live has written is not taken by watch as it was meant", &record);
+}
+
+/* What the whole has to say of these bytes, by the reference: the code, what it writes and its answer. */
+struct whole {
+    uint64_t code;
+    struct bytes journal;
+    uint8_t answer[28];
+};
+
+static void ask_whole(enum entry entry, const struct bytes *bytes, struct whole *whole)
+{
+    whole->journal.len = 0;
+    if (entry == LIVE) {
+        whole->code = reference_run(table.at, table.len, bytes->at, bytes->len, whole->journal.at, ROOM, whole->answer, 4);
+        whole->journal.len = whole->code == 0 ? number_in(whole->answer, 0) : 0;
+    } else {
+        whole->code = reference_check_journal(table.at, table.len, bytes->at, bytes->len, whole->answer, 28);
+    }
+}
+
+/* Field by field from zeros, up to a refusal or to the end: the same as the whole, which is too long for it or not. */
+static void walk(const char *label, enum entry entry, const struct bytes *bytes)
+{
+    static struct whole whole;
+    static struct bytes field, written;
+    uint32_t memory[KEPT] = { 0 }, watching[KEPT] = { 0 };
+    struct turn turn = { .code = 0 };
+    size_t at = 0;
+    written.len = 0;
+    for (unsigned k = 0; memory[0] != 2 || at < bytes->len; k++) {
+        bool guarded = k < 4 || percent(2);
+        if (k == WALK)
+            return;
+        cut_field(bytes, at, &field);
+        take_turn(label, entry, &field, memory, guarded, &turn);
+        if (turn.code != 0)
+            break;
+        memcpy(memory, turn.memory, sizeof memory);
+        if (entry == LIVE) {
+            watch_record(label, &turn, watching, guarded);
+            memcpy(written.at + written.len, turn.record, RECORD_ROOM);
+            written.len += number_in(turn.answer, 0);
+        }
+        at += field.len;
+    }
+    ask_whole(entry, bytes, &whole);
+    if (whole.code == REFUSED(19, 0))
+        return; /* a live run is never too long */
+    bool of_table = turn.code != 0 && turn.code >> 32 < 19;
+    if (whole.code != turn.code + (turn.code == 0 || of_table ? 0 : at))
+        fail(label, "field by field it is refused otherwise than as a whole", bytes);
+    else if (whole.code == 0 && entry == LIVE &&
+             (written.len != whole.journal.len || memcmp(written.at, whole.journal.at, written.len) != 0))
+        fail(label, "the records of the live run are not the journal", bytes);
+    else if (whole.code == 0 && entry == WATCH && memcmp(turn.answer, whole.answer, 28) != 0)
+        fail(label, "the numbers of the live check are not those of the journal", bytes);
+    walked[entry] += whole.code == 0;
+}
+
+/* ---- memory of any numbers, slices that are too short, fields with something behind them ---- */
+
+/* An instant that is at most `time`: at some distance that tells. */
+static uint32_t draw_instant(const struct plan *plan, uint32_t time)
+{
+    uint32_t hold = plan->timed ? plan->length[below(plan->timers)] : plan->hold[below(plan->q)];
+    uint32_t back[] = { 0, 1, below(4), plan->bound, below(plan->bound + 1), hold, hold + 1, (uint32_t)draw64() };
+    uint32_t distance = back[below(8)];
+    return distance > time ? 0 : time - distance;
+}
+
+/* In range as far as the plan is the table's. */
+static void draw_memory(const struct plan *plan, uint32_t *memory)
+{
+    static const uint32_t times[] = { 0, 1, 100, 1000000, 1999999999, 2000000000 };
+    uint32_t time = percent(60) ? times[below(6)] : below(2000000001);
+    for (unsigned k = 0; k < MEMORY_ROOM; k++)
+        memory[k] = draw_instant(plan, time);
+    memory[0] = percent(80) ? 1 : below(3);
+    memory[1] = below(4);
+    memory[2] = below(plan->i);
+    memory[3] = below(plan->i);
+    memory[4] = below(plan->q);
+    memory[8] = time;
+    memory[9] = percent(50) ? below(plan->bound + 1) : plan->bound;
+    for (unsigned k = 14; k < 16; k++)
+        memory[k] = percent(60) ? below(time + 1) : 2000000000 - below(2);
+    memory[16] = percent(50) ? below(3600002) : percent(50) ? 0 : 3600001;
+}
+
+/* One number just in range, just out of it, or any. */
+static void damage_memory(const struct plan *plan, uint32_t *memory)
+{
+    const uint32_t corners[] = { 0, 1, 2, 3, 4, plan->i - 1, plan->i, plan->q - 1, plan->q, plan->bound, plan->bound + 1, memory[8],
+                                 memory[8] + 1, 2000000000, 2000000001, 3600001, 3600002, 0x80000000u, UINT32_MAX, 31, 32 };
+    memory[percent(10) ? 0 : below(KEPT)] = percent(90) ? corners[below(sizeof corners / sizeof *corners)] : (uint32_t)draw64();
+}
+
+/* A field of any kind at a time that tells, by this memory. */
+static void draw_field(const struct plan *plan, enum form form, const uint32_t *memory, struct bytes *field)
+{
+    static const enum kind by_phase[] = { POLL, TEST, TICK, TICK };
+    struct piece kept = pieces[0];
+    size_t count = piece_count;
+    const uint32_t times[] = { memory[8], memory[8] + 1, memory[8] + below(4), memory[7] + plan->bound, memory[7] + plan->bound + 1,
+                               memory[8] - 1, memory[5], memory[7], memory[8] + below(plan->bound + 1), 2000000000, 2000000001 };
+    struct piece piece = { .kind = percent(75) ? by_phase[memory[1] % 4] : (enum kind)below(6), .value = below(plan->i) };
+    piece.time = times[below(percent(70) ? 5 : 11)];
+    if (piece.kind == POLL)
+        piece.value = memory[2];
+    else if (piece.kind == TEST)
+        piece.value = below(2);
+    else if (piece.kind == TICK)
+        piece.value = percent(60) ? memory[4] : plan->next[memory[4] % 32][memory[3] % 32];
+    if (memory[0] == 0 && percent(90))
+        piece = (struct piece){ .kind = OPENING, .value = below(plan->i) };
+    if (percent(8))
+        damage_value(&piece, plan);
+    pieces[0] = piece;
+    piece_count = 1;
+    write_pieces(form, field);
+    pieces[0] = kept;
+    piece_count = count;
+    if (percent(12)) /* something behind it, or some of it is missing */
+        field->len = percent(70) ? field->len + between(1, 9) : below((uint32_t)field->len);
+    if (percent(6) && field->len > 0)
+        field->at[below((uint32_t)field->len)] ^= (uint8_t)(1u << below(8));
+}
+
+static void any_memory_case(const char *label, const struct plan *plan, enum entry entry)
+{
+    static struct bytes field;
+    uint32_t memory[MEMORY_ROOM];
+    struct call call = { .entry = entry, .table = &table, .input = &field, .beforehand = memory };
+    draw_memory(plan, memory);
+    draw_field(plan, entries[entry].takes, memory, &field);
+    if (percent(35))
+        damage_memory(plan, memory);
+    call.output_len = 4 * (size_t)(percent(6) ? below(KEPT) : percent(50) ? KEPT : between(KEPT, MEMORY_ROOM));
+    call.answer_len = draw_answer_len(entries[entry].answer_size);
+    if (entry == LIVE)
+        call.path_len = percent(80) ? between(7, 30) : below(9);
+    compare(label, &call, NULL);
+}
+
 static enum entry draw_entry(void)
 {
     unsigned lot = below(100), entry = CHECK_TABLE;
@@ -1715,10 +1959,24 @@ static enum entry draw_entry(void)
     return (enum entry)entry;
 }
 
+/* After a success: the way back, or the same once more. */
+static void go_on(const char *label, const struct call *call, const struct plan *plan)
+{
+    if (call->entry == READ_STAMPED && call->right != NULL && accepts_other_form())
+        came_back[call->entry]++;
+    if (call->entry == SHORTEN || call->entry == LENGTHEN)
+        turn_back(label, call);
+    if (call->entry == SALVAGE)
+        salvage_again(label, call);
+    if (call->entry == REPORT_ADD)
+        add_in_two_orders(label, plan);
+}
+
 static void random_case(uint64_t seed, uint64_t number)
 {
     static struct plan plan;
     static uint64_t report[REPORT_ROOM];
+    static struct bytes once_more;
     struct call call = { .table = &table, .input = &input };
     char label[64];
 
@@ -1741,7 +1999,7 @@ static void random_case(uint64_t seed, uint64_t number)
     if (writes == REPORT) {
         call.output_len = 8 * draw_report_len();
         draw_report(report);
-        call.report = report;
+        call.beforehand = report;
         count_twice(label);
     }
     call.answer_len = entries[call.entry].answer_size == 0 ? 0 : draw_answer_len(entries[call.entry].answer_size);
@@ -1750,16 +2008,17 @@ static void random_case(uint64_t seed, uint64_t number)
         ask_for_tight(label, &call);
         several_moves_case(label);
     }
-    if (!success)
-        return;
-    if (call.entry == READ_STAMPED && call.right != NULL && accepts_other_form())
-        came_back[call.entry]++;
-    if (call.entry == SHORTEN || call.entry == LENGTHEN)
-        turn_back(label, &call);
-    if (call.entry == SALVAGE)
-        salvage_again(label, &call);
-    if (call.entry == REPORT_ADD)
-        add_in_two_orders(label, &plan);
+    bool walks = takes == STIMULUS || takes == JOURNAL;
+    once_more.len = walks ? input.len : 0;
+    memcpy(once_more.at, input.at, once_more.len);
+    if (success)
+        go_on(label, &call, &plan);
+    if (walks) {
+        enum entry entry = takes == STIMULUS ? LIVE : WATCH;
+        walk(label, entry, &once_more);
+        any_memory_case(label, &plan, entry);
+        any_memory_case(label, &plan, entry);
+    }
 }
 
 /* ---- the paper's cases ---- */
@@ -2440,7 +2699,7 @@ static void compare_reports(const char *label, const struct added *added)
     static const uint64_t others[] = { 0, 7, 0xFFFFFFFFu, UINT64_MAX - 2, UINT64_MAX };
     static struct bytes sums;
     uint64_t report[40], after[CLASSROOM_REPORT];
-    struct call call = { .entry = REPORT_ADD, .table = &table, .input = &input, .report = report, .right = &sums };
+    struct call call = { .entry = REPORT_ADD, .table = &table, .input = &input, .beforehand = report, .right = &sums };
     for (size_t case_number = 0; case_number < 7 * 8; case_number++) {
         size_t len = lengths[case_number % 7];
         report[0] = firsts[case_number / 7];
@@ -2731,6 +2990,172 @@ static void all_moves_cases(void)
     refused_moves_cases();
 }
 
+/* ---- live runs that are told ---- */
+
+/* The paper's run, event by event: what live answers, and what watch does of its record. */
+static void told_live_case(void)
+{
+    static const uint64_t live[][7] = {
+        { 0, 4, 0, 0, 0, 0, 3 }, { 0, 8, 0, 0, 0, 0, 3 }, { 0, 8, 0, 0, 1, 0, 3 }, { 0, 8, 0, 0, 3, 0, 3 }, { 0, 8, 1, 1, 0, 0, 6 },
+        { 0, 8, 1, 1, 0, 0, 6 }, { 0, 8, 1, 1, 1, 0, 6 }, { 0, 8, 1, 1, 2, 4, 6 }, { 0, 8, 1, 1, 0, 0, 9 }, { 0, 8, 1, 1, 1, 0, 9 },
+        { 0, 8, 1, 1, 2, 1, 9 }, { 0, 8, 1, 1, 0, 0, 12 }, { 0, 8, 1, 1, 1, 0, 12 }, { 0, 8, 1, 1, 3, 0, 12 }, { 0, 8, 0, 0, 0, 0, 14 },
+        { 0, 7, 0, 0, 0, 0, 14 },
+    }, watch[][8] = {
+        { 0, 0, 0, 0, 0, 0, 0, 0 }, { 0, 1, 0, 0, 0, 0, 0, 0 }, { 0, 2, 0, 0, 0, 0, 0, 0 }, { 0, 2, 0, 0, 0, 0, 0, 0 },
+        { 0, 3, 1, 1, 1, 1, 0, 3 }, { 0, 3, 1, 1, 1, 1, 0, 3 }, { 0, 5, 1, 1, 1, 1, 0, 3 }, { 0, 5, 1, 1, 1, 1, 4, 3 },
+        { 0, 6, 2, 1, 1, 1, 4, 3 }, { 0, 7, 2, 1, 1, 1, 4, 3 }, { 0, 8, 2, 1, 1, 1, 4, 3 }, { 0, 9, 3, 1, 1, 1, 4, 3 },
+        { 0, 10, 3, 1, 1, 1, 4, 3 }, { 0, 10, 3, 1, 1, 1, 4, 3 }, { 0, 11, 4, 2, 0, 0, 4, 3 }, { 0, 12, 4, 2, 0, 0, 4, 3 },
+    };
+    static struct bytes field, record;
+    uint32_t memory[KEPT] = { 0 }, watching[KEPT] = { 0 };
+    struct call call = { .entry = LIVE, .table = &table, .input = &field, .output_len = 4 * KEPT, .beforehand = memory,
+                         .path_len = RECORD_ROOM, .right_path = &record, .answer_len = 24 };
+    struct call check = { .entry = WATCH, .table = &table, .input = &record, .output_len = 4 * KEPT, .beforehand = watching,
+                          .answer_len = 28 };
+    read_pieces("I0 c1,1 p2,1 t2,1 k3,1 c3,0 p5,0 t5,0 k6,1 p7,0 t8,0 k9,1 p10,0 t10,1 k11,0 e12");
+    write_pieces(JOURNAL, &other_form);
+    write_pieces(STIMULUS, &input);
+    for (size_t k = 0, at = 0, to = 0; k < 16; k++, at += field.len, to += record.len) {
+        cut_field(&input, at, &field);
+        cut_field(&other_form, to, &record);
+        compare("the paper's run, live", &call, live[k]);
+        memcpy(memory, library_side.output.at + library_side.output.before, sizeof memory);
+        compare("the paper's run, watched", &check, watch[k]);
+        memcpy(watching, library_side.output.at + library_side.output.before, sizeof watching);
+        expect(memcmp(memory, watching, sizeof memory) == 0, "the paper's run: live and watch keep other numbers");
+    }
+    expect(memory[0] == 2 && memory[14] == 4 && memory[16] == 4, "the paper's run: it has not ended as it should");
+}
+
+/* What a live run and a live check refuse, of these bytes with this memory. */
+static void refused_live(const char *label, const uint32_t *memory, size_t kept, const struct bytes *field, size_t room,
+                         size_t answer_room, uint64_t wanted)
+{
+    struct call call = { .entry = LIVE, .table = &table, .input = field, .output_len = 4 * kept, .beforehand = memory,
+                         .path_len = room, .answer_len = answer_room };
+    compare(label, &call, &wanted);
+}
+
+static void refused_watch(const char *label, const uint32_t *memory, const struct bytes *field, uint64_t wanted)
+{
+    struct call call = { .entry = WATCH, .table = &table, .input = field, .output_len = 4 * KEPT, .beforehand = memory,
+                         .answer_len = 0 };
+    compare(label, &call, &wanted);
+}
+
+/* The first pieces of a text as bytes of a form. */
+static const struct bytes *told_field(const char *text, enum form form)
+{
+    read_pieces(text);
+    write_pieces(form, &input);
+    return &input;
+}
+
+/* 36: each number, just out of range and just in it, with no field at all, which is 20; and behind it another that is out. */
+static void memory_cases(const uint32_t *running)
+{
+    static const struct bytes nothing;
+    const uint32_t most[KEPT] = { 2, 3, 1, 1, 1, 5, 5, 5, 2000000000, 3, 5, 5, 5, 5, 2000000000, 2000000000, 3600001 };
+    uint32_t memory[KEPT];
+    for (size_t k = 0; k < KEPT; k++) {
+        memcpy(memory, running, sizeof memory);
+        memory[k] = most[k];
+        refused_live("in range", memory, KEPT, &nothing, 0, 0, k == 0 ? REFUSED(22, 0) : REFUSED(20, 0));
+        memory[k]++;
+        refused_live("out of range", memory, KEPT, &nothing, 0, 0, REFUSED(36, k));
+        refused_watch("out of range", memory, &nothing, REFUSED(36, k));
+        refused_live("out of range, with a number too few", memory, KEPT - 1, &nothing, 0, 0, REFUSED(30, 0));
+        memory[KEPT - 1] = UINT32_MAX;
+        refused_live("out of range twice", memory, KEPT, &nothing, 0, 0, REFUSED(36, k));
+    }
+}
+
+static void refused_live_cases(void)
+{
+    static const uint32_t begun_not[KEPT] = { 0, 9, 9, 9, 99, 9, 9, 9, 1, UINT32_MAX, 9, 9, 9, 9, 9, UINT32_MAX, UINT32_MAX };
+    /* Running: state 1 since 3, in phase 0 of the cycle from 3, the input 0 since 5. */
+    static const uint32_t running[KEPT] = { 1, 0, 0, 1, 1, 5, 3, 3, 5, 3, 3, 0, 0, 0, 1, 1, 0 };
+    static struct bytes longer;
+    static const struct bytes nothing;
+    uint32_t ended[KEPT];
+    memory_cases(running);
+    refused_live("not begun: no opening", begun_not, KEPT, told_field("p6", STIMULUS), 8, 24, REFUSED(22, 0));
+    refused_live("not begun: input out of range", begun_not, KEPT, told_field("I2", STIMULUS), 8, 24, REFUSED(23, 0));
+    refused_live("a second opening", running, KEPT, told_field("I2", STIMULUS), 8, 24, REFUSED(22, 0));
+    refused_live("a record of a journal", running, KEPT, told_field("p6,0", JOURNAL), 8, 24, REFUSED(21, 0));
+    refused_live("out of range", running, KEPT, told_field("p2000000001", STIMULUS), 8, 24, REFUSED(23, 0));
+    refused_live("a poll at the change", running, KEPT, told_field("p5", STIMULUS), 8, 24, REFUSED(27, 0));
+    refused_live("a test in phase 0", running, KEPT, told_field("t6", STIMULUS), 8, 24, REFUSED(26, 0));
+    refused_live("past the deadline", running, KEPT, told_field("p7", STIMULUS), 8, 24, REFUSED(25, 0));
+    refused_live("back in time", running, KEPT, told_field("p4", STIMULUS), 8, 24, REFUSED(24, 0));
+    refused_live("no room for the record", running, KEPT, told_field("p6", STIMULUS), 7, 24, REFUSED(30, 0));
+    refused_live("no room for the answer", running, KEPT, told_field("p6", STIMULUS), 8, 23, REFUSED(30, 0));
+    refused_watch("another input", running, told_field("p6,1", JOURNAL), REFUSED(28, 0));
+    refused_watch("no room for the answer", running, told_field("p6,0", JOURNAL), REFUSED(30, 0));
+    longer = *told_field("p4", STIMULUS); /* back in time, and bytes behind it */
+    longer.len += 2;
+    refused_live("bytes behind the field", running, KEPT, &longer, 8, 24, REFUSED(22, 7));
+    longer.at[3] = 0xFF; /* out of range, which comes first */
+    refused_live("out of range, bytes behind it", running, KEPT, &longer, 8, 24, REFUSED(23, 0));
+    longer = *told_field("I1 I1", JOURNAL);
+    refused_watch("bytes behind the opening", begun_not, &longer, REFUSED(22, 4));
+    memcpy(ended, running, sizeof ended);
+    ended[0] = 2;
+    refused_live("ended: nothing", ended, KEPT, &nothing, 8, 24, REFUSED(22, 0));
+    refused_live("ended: an unknown field", ended, KEPT, told_field("p6", JOURNAL), 8, 24, REFUSED(22, 0));
+    refused_watch("ended: an opening", ended, told_field("I0", JOURNAL), REFUSED(22, 0));
+}
+
+/* A live run to the last time of all: cycles of 60,000, each with a change, a poll, a test and a tick, more than 100,000 records. State 1
+ * holds input 0 for the longest time that there is. */
+static void longest_live_case(void)
+{
+    struct plan plan = classroom();
+    static struct bytes field;
+    static const unsigned tags[] = { 0x21, 0x22, 0x23, 0x24 };
+    uint32_t memory[KEPT] = { 0 }, watching[KEPT] = { 0 }, records = 0, time = 0;
+    struct turn turn = { .code = 0 };
+    size_t starts[6];
+    plan.bound = 60000;
+    plan.hold[1] = 3600000;
+    write_table(&plan, 2, 2, &table, starts);
+    field = *told_field("I1", STIMULUS);
+    for (bool ended = false; !ended; records++) {
+        take_turn("the longest live run", LIVE, &field, memory, records % 10000 == 0, &turn);
+        if (turn.code != 0)
+            break;
+        watch_record("the longest live run", &turn, watching, records % 10000 == 0);
+        memcpy(memory, turn.memory, sizeof memory);
+        ended = memory[0] == 2;
+        unsigned tag = time == 2000000000 ? 0x2F : tags[records % 4];
+        if (tag == 0x22)
+            time = time + 60000 < 2000000000 ? time + 60000 : 2000000000;
+        field.len = 0;
+        head(&field, tag, tag == 0x21 ? 5 : 4);
+        add4(&field, time);
+        if (tag == 0x21)
+            add(&field, records / 4 % 3 == 0 ? 1 : 0);
+    }
+    expect(turn.code == 0 && records > 100000, "the longest live run breaks off");
+    expect(memory[8] == 2000000000 && memory[14] == 33333 && memory[0] == 2, "the longest live run ends otherwise");
+    refused_live("past the longest live run", memory, KEPT, &field, 8, 24, REFUSED(22, 0));
+    memory[0] = 1;
+    field.at[6]++;
+    refused_live("later than any time", memory, KEPT, &field, 8, 24, REFUSED(23, 0));
+}
+
+static void live_cases(void)
+{
+    const struct plan plans[] = { classroom(), classroom_with_timer() };
+    size_t starts[6];
+    for (size_t k = 0; k < 2; k++) {
+        write_table(&plans[k], 2, 2, &table, starts);
+        told_live_case();
+        refused_live_cases();
+    }
+    longest_live_case();
+}
+
 /* ---- the whole ---- */
 
 static bool can_give(enum entry entry, unsigned number)
@@ -2743,6 +3168,10 @@ static bool can_give(enum entry entry, unsigned number)
         return entry != CONVERT_TABLE; /* it reads by the old rules */
     if (number == 30)
         return entry != CHECK_TABLE;
+    if (number == 36)
+        return entry == LIVE || entry == WATCH;
+    if (number == 19 && (entry == LIVE || entry == WATCH))
+        return false;
     if (entry == REACTION_MOVES && (number == 32 || number == 33))
         return true;
     if (entry == REACTION_MOVES || calculators[entry][0] != NULL)
@@ -2752,7 +3181,7 @@ static bool can_give(enum entry entry, unsigned number)
     if (number == 24)
         return entries[entry].takes == JOURNAL || entries[entry].takes == STIMULUS; /* a gap is never below 0 */
     if (number >= 19 && number <= 28)
-        return entries[entry].takes != NOTHING && !(entry == RUN && number == 28);
+        return entries[entry].takes != NOTHING && !((entry == RUN || entry == LIVE) && number == 28);
     return (entry == LENGTHEN && number == 34) || (entry == REPORT_ADD && number == 35);
 }
 
@@ -2815,7 +3244,9 @@ static uint64_t print_came_back(uint64_t *seen)
     printf("accepted journals, counted by slots and by stretches: %" PRIu64 "\n", counted_twice);
     printf("questions of several moves, worked out by paths and by rounds: %" PRIu64 "\n", worked_out_twice);
     printf("questions of one move, asked in both ways: %" PRIu64 "\n", came_back[REACTION_MOVES]);
-    const uint64_t others[] = { counted_twice, worked_out_twice, came_back[REACTION_MOVES] };
+    printf("stimuli that were run to the end, taken event by event: %" PRIu64 "\n", walked[LIVE]);
+    printf("accepted journals, taken record by record: %" PRIu64 "\n", walked[WATCH]);
+    const uint64_t others[] = { counted_twice, worked_out_twice, came_back[REACTION_MOVES], walked[LIVE], walked[WATCH] };
     for (size_t k = 0; k < sizeof others / sizeof *others; k++)
         if (others[k] == 0)
             away++;
@@ -2853,6 +3284,7 @@ int main(int argc, char **argv)
     last_cut_cases();
     all_report_cases();
     all_moves_cases();
+    live_cases();
     uint64_t asserted = passed, wrong = mismatches;
     for (uint64_t number = 0; number < cases; number++)
         random_case(seed, number);

@@ -1,4 +1,4 @@
-/* A second implementation of the thirteen entries in plain C, written from the rules alone; docs/RULES.md, "In C", says what each
+/* A second implementation of the fifteen entries in plain C, written from the rules alone; docs/RULES.md, "In C", says what each
  * takes and gives. The library is held against it.
  * With SECOND defined the same entries get the prefix second_, so that two builds can be linked into one program. */
 #ifndef REFERENCE_H
@@ -24,6 +24,8 @@
 #define reference_salvage second_salvage
 #define reference_report_add second_report_add
 #define reference_tally second_tally
+#define reference_live second_live
+#define reference_watch second_watch
 #endif
 
 uint64_t reference_check_table(const uint8_t *table, size_t table_len);
@@ -64,6 +66,12 @@ uint64_t reference_salvage(const uint8_t *table, size_t table_len, const uint8_t
 
 uint64_t reference_report_add(const uint8_t *table, size_t table_len, const uint8_t *journal, size_t journal_len,
                               uint64_t *report, size_t report_len);
+
+uint64_t reference_live(const uint8_t *table, size_t table_len, uint32_t *live, size_t live_len, const uint8_t *event,
+                        size_t event_len, uint8_t *record, size_t record_len, uint8_t *answer, size_t answer_len);
+
+uint64_t reference_watch(const uint8_t *table, size_t table_len, uint32_t *live, size_t live_len, const uint8_t *record,
+                         size_t record_len, uint8_t *answer, size_t answer_len);
 
 /* What a journal adds to a report, 1,089 places at most: counted slot by slot, which is what the rules say, or stretch by stretch from
  * one record to the next. Returns how many numbers there are; 0 if the journal is refused, or is too long to be counted in this way. */
