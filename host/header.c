@@ -31,6 +31,7 @@ static uint8_t answer[KROSSVIL_JOURNAL_ANSWER];
 static size_t table_len, journal_len;
 
 static const uint8_t stimulus[] = { KROSSVIL_STIMULUS_OPENING, 0, 1, 0, 0x2F, 0, 4, 0, 0, 0, 0 };
+static const uint8_t change[] = { 0x21, 0, 5, 0, 0, 0, 0, 1 }, opening[] = { KROSSVIL_JOURNAL_OPENING, 0, 1, 0 };
 static const uint8_t stamped[] = { KROSSVIL_JOURNAL_OPENING, 0, 1, 0, 0x1F, 0, 2, 0, 0 };
 static const uint8_t short_journal[] = { KROSSVIL_SHORT_OPENING, 0, 1, 0, 0x3F, 0, 2, 0, 0 };
 
@@ -122,6 +123,30 @@ static uint64_t salvage(size_t len)
     return krossvil_salvage(table, table_len, journal, journal_len, salvaged, sizeof salvaged, answer, len);
 }
 
+/* A run of its own for each call, so many numbers of memory, and the first event of it or, with the memory of a run that is under way, a
+ * change. */
+static uint64_t first_event(size_t kept, size_t answer_len)
+{
+    uint32_t live[KROSSVIL_LIVE] = { 0 };
+    return krossvil_live(table, table_len, live, kept, stimulus, 4, written, KROSSVIL_RECORD_MAX, answer, answer_len);
+}
+
+static uint64_t next_event(size_t record_len)
+{
+    uint32_t live[KROSSVIL_LIVE] = { 1 };
+    return krossvil_live(table, table_len, live, KROSSVIL_LIVE, change, sizeof change, written, record_len, answer, sizeof answer);
+}
+
+static uint64_t live_answer(size_t len) { return first_event(KROSSVIL_LIVE, len); }
+
+static uint64_t live_kept(size_t kept) { return first_event(kept, sizeof answer); }
+
+static uint64_t watch(size_t len)
+{
+    uint32_t live[KROSSVIL_LIVE] = { 0 };
+    return krossvil_watch(table, table_len, live, KROSSVIL_LIVE, opening, sizeof opening, answer, len);
+}
+
 static int answers(uint64_t (*call)(size_t), size_t size)
 {
     return call(size) == 0 && krossvil_number(call(size - 1)) == KROSSVIL_TOO_SHORT;
@@ -140,6 +165,8 @@ static void test_answers(void)
     EXPECT(answers(shorten, KROSSVIL_SHORTEN_ANSWER));
     EXPECT(answers(lengthen, KROSSVIL_LENGTHEN_ANSWER));
     EXPECT(answers(salvage, KROSSVIL_SALVAGE_ANSWER));
+    EXPECT(answers(live_answer, KROSSVIL_LIVE_ANSWER));
+    EXPECT(answers(watch, KROSSVIL_WATCH_ANSWER));
 }
 
 /* ---- Sizes ---- */
@@ -228,6 +255,19 @@ static void test_report(void)
     EXPECT(number_of_report(need) == 0 && number_of_report(need) == KROSSVIL_REPORT_FULL);
 }
 
+/* The memory's size and the record's, and what stands where. */
+static void test_live(void)
+{
+    uint32_t live[KROSSVIL_LIVE] = { 0 };
+    EXPECT(answers(live_kept, KROSSVIL_LIVE));
+    EXPECT(answers(next_event, KROSSVIL_RECORD_MAX));
+    EXPECT(krossvil_answer(answer, KROSSVIL_LIVE_WRITTEN) == KROSSVIL_RECORD_MAX);
+    EXPECT(krossvil_live(table, table_len, live, KROSSVIL_LIVE, stimulus, 4, written, 4, answer, sizeof answer) == 0);
+    EXPECT(krossvil_answer(answer, KROSSVIL_LIVE_WRITTEN) == 4 && krossvil_answer(answer, KROSSVIL_LIVE_DEADLINE) == 1);
+    EXPECT(krossvil_live(table, table_len, live, KROSSVIL_LIVE, change, sizeof change, written, 8, answer, sizeof answer) == 0);
+    EXPECT(live[KROSSVIL_MEMORY_STAGE] == 1 && live[KROSSVIL_MEMORY_INPUT] == 1 && live[KROSSVIL_MEMORY_TIME] == 0);
+}
+
 int main(void)
 {
     const size_t largest_len = make_all();
@@ -240,6 +280,7 @@ int main(void)
     test_salvaged();
     test_moves();
     test_report();
+    test_live();
     EXPECT(krossvil_table_states(table) == STATES && krossvil_table_inputs(table) == INPUTS && krossvil_table_outputs(table) == OUTPUTS);
     EXPECT(krossvil_answer(numbers, 1) == 0x02030405 && krossvil_read(numbers, 1) == 0x02030405);
     snprintf(text, sizeof text, "%d.%d.%d", version / 1000000, version / 1000 % 1000, version % 1000);

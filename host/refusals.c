@@ -106,12 +106,23 @@ static void test_lengthening(void)
            KROSSVIL_WOULD_BE_TOO_LONG, 0);
 }
 
+/* A state, number 4 of the memory, that the table has not got. */
+static void test_memory(void)
+{
+    uint32_t live[KROSSVIL_LIVE] = { 1 };
+    uint8_t answer[KROSSVIL_WATCH_ANSWER];
+    live[KROSSVIL_MEMORY_STATE] = 2;
+    EXPECT(krossvil_watch(holds, sizeof holds, live, KROSSVIL_LIVE, holds, 0, answer, sizeof answer), KROSSVIL_MEMORY_OUT_OF_RANGE,
+           KROSSVIL_MEMORY_STATE);
+}
+
 int main(void)
 {
     test_tables();
     test_reactions();
     test_journals();
     test_lengthening();
+    test_memory();
     printf("%u passed, %u failed\n", passed, failed);
     return failed != 0;
 }

@@ -99,7 +99,8 @@ fi
 called=("$library")
 if [ "$self" = yes ]; then
     called=("$out/differential-second.o")
-    for entry in check_table check_journal run reaction reaction_moves reaction_tight convert_table read_stamped check_short shorten lengthen salvage report_add; do
+    for entry in check_table check_journal run reaction reaction_moves reaction_tight convert_table read_stamped check_short shorten lengthen salvage report_add \
+        live watch; do
         called+=("-Dkrossvil_$entry=second_$entry")
     done
 fi

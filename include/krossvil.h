@@ -1,15 +1,17 @@
 /*
- * krossvil: a table check, a journal check, a runtime, a reaction calculator for one move and for several, a converter of old tables, a
- * reader of stamped journals, for short journals a check and the ways to and from journals, salvage of torn journals, and a report of
- * where the time of many journals went; for polling controllers, and a host program in C. docs/RULES.md has all the rules in words.
+ * krossvil: a table check, a journal check, a runtime, both of these one record at a time, a reaction calculator for one move and for
+ * several, a converter of old tables, a reader of stamped journals, for short journals a check and the ways to and from journals, salvage
+ * of torn journals, and a report of where the time of many journals went; for polling controllers, and a host program in C.
+ * docs/RULES.md has all the rules in words.
  *
  * Link with libkrossvil.a (x86-64). The functions keep no state, allocate nothing, call only memcpy and memset, and never stop the program:
  * each ends with an answer on any bytes. So they may be called from several threads at once, as long as no thread writes to a slice that
  * another call was given. How much stack they need is below; that is measured, not proved.
  *
  * Slices. A slice is a pointer and the number of bytes at it. The pointer is never null, not even if the number is 0, and a slice
- * that a function writes to (without const) shares no byte with another slice of the same call. Two slices have numbers in the place
- * of bytes, in the processor's own byte order: the sums of krossvil_reaction_moves and the report of krossvil_report_add.
+ * that a function writes to (without const) shares no byte with another slice of the same call. Three slices have numbers in the place
+ * of bytes, in the processor's own byte order: the sums of krossvil_reaction_moves, the report of krossvil_report_add, and the memory of
+ * krossvil_live and krossvil_watch.
  *
  * The number that comes back. 0 is success. Otherwise it is refusal number * 2^32 + place: krossvil_number and krossvil_place
  * below take it apart, and krossvil_refusal names the numbers. On a refusal no byte of any slice has changed.
@@ -87,7 +89,7 @@ extern "C" {
 /* ---- Refusals ---- */
 
 /* Each says what is wrong and, behind the bar, at which place. A place is a byte offset, counted from 0, in the bytes that were turned
- * down, save for 9, 10, 14, 32 and 33. */
+ * down, save for 9, 10, 14, 32, 33 and 36. */
 enum krossvil_refusal {
     KROSSVIL_TABLE_RUNS_OUT = 1,          /* table runs out before field 06, or 08, is complete | start of the field */
     KROSSVIL_TABLE_WRONG_FIELD = 2,       /* table field has the wrong tag or length | start of the field */
@@ -113,11 +115,12 @@ enum krossvil_refusal {
     KROSSVIL_WRONG_PHASE = 26,            /* record not allowed in this phase | start of the field */
     KROSSVIL_POLL_TOO_SOON = 27,          /* poll not later than last change, or than cycle start | start of the field */
     KROSSVIL_DIFFERS = 28,                /* polled input, verdict or state differs from the machine's | start of the field */
-    KROSSVIL_TOO_SHORT = 30,              /* what is lent is too short: the buffer for what is written, the answer or the report | 0 */
+    KROSSVIL_TOO_SHORT = 30,              /* what is lent is too short: the buffer for what is written, the answer, the report, the memory | 0 */
     KROSSVIL_TOO_MANY_MOVES = 32,         /* several moves: more than 32 | 0 */
     KROSSVIL_SUMS_OR_PATH_TOO_SHORT = 33, /* several moves: fewer than krossvil_sums_len or krossvil_path_len asks for | 0 */
     KROSSVIL_WOULD_BE_TOO_LONG = 34,      /* lengthening: the journal would pass 65,536 bytes | 0 */
     KROSSVIL_REPORT_FULL = 35,            /* the report has 1,000 journals already | 0 */
+    KROSSVIL_MEMORY_OUT_OF_RANGE = 36,    /* live: memory that is none of a live run under this table | index of the first such number */
 };
 
 /* The table's refusals, 1 to 8 and 11 to 13, come before all others: field by field; in field 06 entry by entry, each for 7 and
@@ -126,6 +129,8 @@ enum krossvil_refusal {
  * field by field 20 to 22; of the calculators, 14, 9 for the states, 9 for the inputs, 10; of several moves the same with 32 before 10
  * and 33 after it. Then, of krossvil_lengthen, 34. Then 30.
  * Of krossvil_report_add, after those of the journal, 30 if the report has no number at all, then 35, then 30.
+ * Of krossvil_live and krossvil_watch, after the table's, 30 if the memory has fewer than 17 numbers; 36; 22 at 0 if the run has ended;
+ * 20 to 23 at 0 for the field; 22 at the first byte behind it; 24 to 28 at 0; then 30.
  * krossvil_salvage gives 20 to 23 only at 0, for the opening field: it salvages from all that is wrong behind that.
  * The table check has no answer, and gives 1 to 8 and 11 to 13 only. The converter gives none of 11 to 14: it takes tables with holds
  * only, and field 07 is 2 to it. 29, a run's journal that would pass 65,536 bytes, is no longer given, since no run makes one; the
@@ -145,11 +150,15 @@ enum krossvil_refusal {
 #define KROSSVIL_SHORTENED_MAX 49149u /* for krossvil_shorten; for krossvil_lengthen KROSSVIL_JOURNAL_MAX */
 
 #define KROSSVIL_RUN_STACK 80000u /* bytes of stack that are enough for krossvil_run and krossvil_read_stamped */
+#define KROSSVIL_LIVE_STACK 2048u /* and for krossvil_live and krossvil_watch */
 #define KROSSVIL_STACK 16000u     /* and for the other functions */
 
 #define KROSSVIL_MOVES_MAX 32u  /* moves of one question */
 #define KROSSVIL_SUMS_MAX 1024u /* numbers, not bytes: so many sums are never too few */
 #define KROSSVIL_PATH_MAX 63u   /* a path of so many bytes is never too short */
+
+#define KROSSVIL_LIVE 17u      /* numbers, not bytes: the memory of a live run */
+#define KROSSVIL_RECORD_MAX 8u /* a record of a journal has no more bytes */
 
 #define KROSSVIL_REPORT_MAX 1089u      /* numbers, not bytes: a report of so many is never too short */
 #define KROSSVIL_REPORT_JOURNALS 1000u /* so many journals one report takes */
@@ -168,11 +177,13 @@ enum krossvil_refusal {
 #define KROSSVIL_SHORTEN_ANSWER 4u
 #define KROSSVIL_LENGTHEN_ANSWER 4u
 #define KROSSVIL_SALVAGE_ANSWER 16u
+#define KROSSVIL_LIVE_ANSWER 24u
+#define KROSSVIL_WATCH_ANSWER 28u
 
 /* Where its numbers stand: krossvil_answer below reads the one at a place. */
 enum {
-    /* krossvil_check_journal and krossvil_check_short */
-    KROSSVIL_JOURNAL_END = 0, /* T */
+    /* krossvil_check_journal, krossvil_check_short and krossvil_watch */
+    KROSSVIL_JOURNAL_END = 0, /* T; of krossvil_watch the time of the record */
     KROSSVIL_JOURNAL_TICKS = 1,
     KROSSVIL_JOURNAL_MOVES = 2,
     KROSSVIL_JOURNAL_STATE = 3,  /* the last one */
@@ -197,6 +208,26 @@ enum {
     KROSSVIL_SALVAGE_DROPPED = 1,
     KROSSVIL_SALVAGE_NUMBER = 2, /* 0 if none did: the journal is accepted */
     KROSSVIL_SALVAGE_PLACE = 3,
+
+    /* krossvil_live */
+    KROSSVIL_LIVE_WRITTEN = 0, /* how many bytes the record has */
+    KROSSVIL_LIVE_STATE = 1,   /* the state now */
+    KROSSVIL_LIVE_OUTPUT = 2,  /* its output */
+    KROSSVIL_LIVE_PHASE = 3,
+    KROSSVIL_LIVE_LEFT = 4,     /* ticks left at this test, 0 if it is free, and at any other event */
+    KROSSVIL_LIVE_DEADLINE = 5, /* cycle start + E: no record may be later */
+};
+
+/* Where the numbers of a live run's memory stand that a host may want to read. The others are in docs/RULES.md. */
+enum {
+    KROSSVIL_MEMORY_STAGE = 0, /* 0 not begun, 1 running, 2 ended */
+    KROSSVIL_MEMORY_PHASE = 1,
+    KROSSVIL_MEMORY_INPUT = 2, /* the present one */
+    KROSSVIL_MEMORY_STATE = 4,
+    KROSSVIL_MEMORY_START = 7, /* of the cycle */
+    KROSSVIL_MEMORY_TIME = 8,  /* of the last record */
+    KROSSVIL_MEMORY_TICKS = 14,
+    KROSSVIL_MEMORY_MOVES = 15,
 };
 
 /* ---- Forms and phases ---- */
@@ -336,6 +367,28 @@ uint64_t krossvil_salvage(const uint8_t *table, size_t table_len, const uint8_t 
  * them is for the host to see to. Under another table numbers would be added at places that mean something else. */
 uint64_t krossvil_report_add(const uint8_t *table, size_t table_len, const uint8_t *journal, size_t journal_len,
                              uint64_t *report, size_t report_len);
+
+/* Take the next event of a stimulus, and write the record that it makes at the start of `record`; the bytes past it are unchanged. One
+ * event is one field: 20 first, then 21 to 24, and 2F last. The records one after another are the journal that krossvil_run would write of
+ * the events one after another; but there may be any number of them, up to the time 2,000,000,000.
+ * live is memory of the host's: live_len numbers of 32 bits, in the processor's own byte order, aligned to 4 bytes. The first 17 are the
+ * run's: zeros before it begins, and to be kept from one call to the next as they are. Numbers past them are unchanged. They may outlast a
+ * loss of supply: with the memory that the last call left, the run goes on.
+ * Where a number is out of its range the memory is refused (36): the stage is at most 2, the phase at most 3, inputs, polled and present,
+ * and the state are the table's, no instant is later than the time, nor that than 2,000,000,000, and the longest cycle is at most E. Of a
+ * run that has not begun only the stage is looked at. Memory that is in range and yet not the machine's, or that of another table, no
+ * check can tell: the answer is then that of the machine which the memory says.
+ * After the end field every event is 22 at 0. A refused event changes nothing, and may be mended and given again. There must be room for
+ * the record as a journal has it, 4, 8 or, for the end, 7 bytes (30). Answer, 24 bytes: the record's length; the state and its output, as
+ * they are now; the phase; the ticks left at this test, 0 if it is free, and at any other event; the deadline, cycle start + E. */
+uint64_t krossvil_live(const uint8_t *table, size_t table_len, uint32_t *live, size_t live_len, const uint8_t *event, size_t event_len,
+                       uint8_t *record, size_t record_len, uint8_t *answer, size_t answer_len);
+
+/* Take the next record of a journal, and judge it, with memory as krossvil_live has it: a record that krossvil_live has written is taken,
+ * and the memory is then the same. One record is one field: 10 first, then 11 to 14, and 1F last. Answer, 28 bytes: the numbers of
+ * krossvil_check_journal, as if the journal ended with this record; T is its time, 0 after the opening field. */
+uint64_t krossvil_watch(const uint8_t *table, size_t table_len, uint32_t *live, size_t live_len, const uint8_t *record, size_t record_len,
+                        uint8_t *answer, size_t answer_len);
 
 /* How many numbers a report has, and where in it they stand. */
 static inline size_t krossvil_report_len(uint32_t state_count, uint32_t input_count)
