@@ -27,4 +27,11 @@ uint64_t plain_reaction(const uint8_t *table, size_t table_len, uint32_t states,
 uint64_t plain_reaction_moves(const uint8_t *table, size_t table_len, uint32_t states, uint32_t inputs, uint32_t moves, uint32_t *sums,
                               size_t sums_len, uint8_t *path, size_t path_len, uint8_t *answer, size_t answer_len);
 
+/* host/plain-live.c */
+uint64_t plain_live(const uint8_t *table, size_t table_len, uint32_t *live, size_t live_len, const uint8_t *event, size_t event_len,
+                    uint8_t *record, size_t record_len, uint8_t *answer, size_t answer_len);
+
+uint64_t plain_watch(const uint8_t *table, size_t table_len, uint32_t *live, size_t live_len, const uint8_t *record, size_t record_len,
+                     uint8_t *answer, size_t answer_len);
+
 #endif
