@@ -187,11 +187,32 @@ static void make_run(struct input *in, bool irregular, size_t size, size_t recor
 
 /* ---- jobs ---- */
 
-enum job { CHECK_TABLE, CHECK_JOURNAL, CHECK_SHORT, RUN, REACTION, REPORT_ADD, REACTION_MOVES };
+enum job { CHECK_TABLE, CHECK_JOURNAL, CHECK_SHORT, RUN, REACTION, REPORT_ADD, REACTION_MOVES, LIVE, WATCH };
 
 static uint8_t room[KROSSVIL_JOURNAL_MAX];
 static uint64_t sums[KROSSVIL_REPORT_MAX];
 static uint32_t path_sums[KROSSVIL_SUMS_MAX];
+
+/* A stimulus event by event, or a journal record by record, from zeros: the first refusal, or 0. */
+static uint64_t field_by_field(enum job job, bool library, const struct input *in, uint8_t *answer)
+{
+    uint32_t live[KROSSVIL_LIVE] = { 0 };
+    const uint8_t *from = job == LIVE ? in->stimulus : in->journal, *end = from + (job == LIVE ? in->stimulus_len : in->journal_len);
+    uint8_t *to = room;
+    uint64_t code = 0;
+    for (size_t size; from < end && code == 0; from += size) {
+        size = 3u + from[2];
+        if (job == WATCH) {
+            code = (library ? krossvil_watch : plain_watch)(in->table, in->table_len, live, KROSSVIL_LIVE, from, size, answer,
+                                                            KROSSVIL_WATCH_ANSWER);
+        } else {
+            code = (library ? krossvil_live : plain_live)(in->table, in->table_len, live, KROSSVIL_LIVE, from, size, to,
+                                                          KROSSVIL_RECORD_MAX, answer, KROSSVIL_LIVE_ANSWER);
+            to += krossvil_answer(answer, KROSSVIL_LIVE_WRITTEN);
+        }
+    }
+    return code;
+}
 
 static uint64_t call(enum job job, bool library, const struct input *in, uint8_t *answer)
 {
@@ -211,6 +232,9 @@ static uint64_t call(enum job job, bool library, const struct input *in, uint8_t
         sums[KROSSVIL_REPORT_ADDED] = 0; /* so that it is never full */
         return (library ? krossvil_report_add : plain_report_add)(in->table, in->table_len, in->journal, in->journal_len,
                                                                   sums, KROSSVIL_REPORT_MAX);
+    case LIVE:
+    case WATCH:
+        return field_by_field(job, library, in, answer);
     case REACTION_MOVES:
         return (library ? krossvil_reaction_moves : plain_reaction_moves)(in->table, in->table_len, in->states, in->inputs, in->moves,
                                                                           path_sums, KROSSVIL_SUMS_MAX, room, KROSSVIL_PATH_MAX,
@@ -225,8 +249,10 @@ static size_t bytes_of(enum job job, const struct input *in)
 {
     switch (job) {
     case CHECK_JOURNAL:
+    case WATCH:
     case REPORT_ADD: return in->journal_len;
     case CHECK_SHORT: return in->short_len;
+    case LIVE:
     case RUN: return in->stimulus_len;
     default: return in->table_len;
     }
@@ -393,6 +419,20 @@ static void several_moves(void)
         printf("    a move from 17 to 32 costs %.2f of a move from 9 to 16\n", (cost[2] - cost[1]) / (cost[1] - cost[0]) / 2);
 }
 
+/* Irregular runs of 1 KB, so that an event is any of them. In each call the table is checked, which is most of it. */
+static void live(uint32_t count, uint32_t timers)
+{
+    char name[64];
+    for (int k = 0; k < used(); k++) {
+        make_table(&inputs[k], count, count, 60, timers);
+        make_run(&inputs[k], true, 1024, 8);
+    }
+    snprintf(name, sizeof name, "live, %u by %u, %s", count, count, timers == 0 ? "holds" : "4 timers");
+    report(name, LIVE);
+    snprintf(name, sizeof name, "watch, %u by %u, %s", count, count, timers == 0 ? "holds" : "4 timers");
+    report(name, WATCH);
+}
+
 int main(int argc, char **argv)
 {
     counting = argc == 2 && strcmp(argv[1], "count") == 0;
@@ -405,7 +445,7 @@ int main(int argc, char **argv)
     runs(RUN, "runtime", "irregular", true, 0);
     tables(2, 2);
     tables(32, 32);
-    /* Irregular runs with timers, then short journals, then reports, then several moves. What is new comes last, so that the lines
+    /* Irregular runs with timers, then short journals, then reports, several moves, live runs. What is new comes last, so that the lines
      * above it have the inputs that they had before. */
     runs(CHECK_JOURNAL, "journal check", "1 timer", true, 1);
     runs(CHECK_JOURNAL, "journal check", "4 timers", true, 4);
@@ -419,5 +459,10 @@ int main(int argc, char **argv)
     runs(REPORT_ADD, "report", "irregular", true, 0);
     runs(REPORT_ADD, "report", "4 timers", true, 4);
     several_moves();
+    const uint32_t counts[] = { 2, 8, 32 };
+    for (int k = 0; k < 3; k++) {
+        live(counts[k], 0);
+        live(counts[k], 4);
+    }
     return 0;
 }

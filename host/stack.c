@@ -137,6 +137,26 @@ static void report_add(void)
     code = krossvil_report_add(table, table_len, journal, journal_len, report, sizeof report / sizeof *report);
 }
 
+/* The first four fields of a run: opening, poll, test and tick. */
+static void live(void)
+{
+    uint32_t memory[KROSSVIL_LIVE] = { 0 };
+    const uint8_t *event = stimulus;
+    code = 0;
+    for (int k = 0; k < 4 && code == 0; k++, event += 3 + event[2])
+        code = krossvil_live(table, table_len, memory, KROSSVIL_LIVE, event, 3u + event[2], salvaged, KROSSVIL_RECORD_MAX, answer,
+                             sizeof answer);
+}
+
+static void watch(void)
+{
+    uint32_t memory[KROSSVIL_LIVE] = { 0 };
+    const uint8_t *record = journal;
+    code = 0;
+    for (int k = 0; k < 4 && code == 0; k++, record += 3 + record[2])
+        code = krossvil_watch(table, table_len, memory, KROSSVIL_LIVE, record, 3u + record[2], answer, sizeof answer);
+}
+
 static void call_on_own_stack(void (*call)(void))
 {
     memset(stack, PAINT, sizeof stack);
@@ -160,7 +180,7 @@ static int measure(const char *name, void (*call)(void), size_t promised)
     return good;
 }
 
-/* The ten calls that take either kind of table: how many are good. */
+/* The twelve calls that take either kind of table: how many are good. */
 static int measure_on(const char *kind, const uint8_t *bytes, size_t len)
 {
     static const size_t sizes[] = { 1000, 10000, KROSSVIL_STIMULUS_MAX };
@@ -181,6 +201,8 @@ static int measure_on(const char *kind, const uint8_t *bytes, size_t len)
     short_len = krossvil_answer(answer, KROSSVIL_WRITTEN);
     good += measure("check_short", check_short, KROSSVIL_STACK);
     good += measure("lengthen", lengthen, KROSSVIL_STACK);
+    good += measure("live", live, KROSSVIL_LIVE_STACK);
+    good += measure("watch", watch, KROSSVIL_LIVE_STACK);
     return good;
 }
 
@@ -195,6 +217,6 @@ int main(void)
     passed += measure("convert_table", convert_table, KROSSVIL_STACK);
     make_stamped();
     passed += measure("read_stamped", read_stamped, KROSSVIL_RUN_STACK);
-    printf("%d passed, %d failed\n", passed, 25 - passed);
-    return passed != 25;
+    printf("%d passed, %d failed\n", passed, 29 - passed);
+    return passed != 29;
 }
