@@ -3120,7 +3120,7 @@ static void longest_live_case(void)
     plan.hold[1] = 3600000;
     write_table(&plan, 2, 2, &table, starts);
     field = *told_field("I1", STIMULUS);
-    for (bool ended = false; !ended; records++) {
+    for (bool ended = false; !ended && records < 140000; records++) {
         take_turn("the longest live run", LIVE, &field, memory, records % 10000 == 0, &turn);
         if (turn.code != 0)
             break;
