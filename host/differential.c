@@ -1733,10 +1733,13 @@ static void several_moves_case(const char *label)
 /* Stimuli and journals that were given field by field, to the end of what the whole has to say. */
 static uint64_t walked[ENTRIES];
 
+/* At most so many fields of each. All of them, but where the reference stands on both sides: the faults are many. */
+#ifndef WALK
 #ifdef SELF
-enum { WALK = 40 }; /* fields: the reference stands on both sides, and the faults are many */
+#define WALK 40
 #else
-enum { WALK = MOST_PIECES };
+#define WALK MOST_PIECES
+#endif
 #endif
 
 enum { MEMORY_ROOM = KEPT + 8, RECORD_ROOM = 8 };
@@ -1929,8 +1932,10 @@ static void draw_field(const struct plan *plan, enum form form, const uint32_t *
     write_pieces(form, field);
     pieces[0] = kept;
     piece_count = count;
-    if (percent(12)) /* something behind it, or some of it is missing */
-        field->len = percent(70) ? field->len + between(1, 9) : below((uint32_t)field->len);
+    if (percent(3)) /* some of it is missing, or something stands behind it */
+        field->len = below((uint32_t)field->len);
+    for (unsigned behind = percent(9) ? between(1, 9) : 0; behind > 0; behind--)
+        add(field, below(256));
     if (percent(6) && field->len > 0)
         field->at[below((uint32_t)field->len)] ^= (uint8_t)(1u << below(8));
 }
@@ -3153,7 +3158,8 @@ static void live_cases(void)
         told_live_case();
         refused_live_cases();
     }
-    longest_live_case();
+    if (WALK >= 40)
+        longest_live_case();
 }
 
 /* ---- the whole ---- */

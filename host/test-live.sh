@@ -154,7 +154,15 @@ watches() { # TABLE JOURNAL: it prints the same as the check of the whole, and e
     [ "$("${run[@]}" "$out/watch" "$1" <"$2"; echo "$?")" = "$whole"$'\n'"$status" ]
     result $? "$2 under $1: $whole"
 }
+watches "$table" examples/live/journal.bin
 watches "$table" "$out/killed.journal"
+if [ "$self" = no ]; then
+    mkdir "$out/files"
+    cp "$table" "$out/files/table.bin"
+    cp "$out/killed.journal" "$out/files/journal.bin"
+    [ "$(cd "$out/files" && ../../../../host/run-program checkjournal)" = "$("${run[@]}" "$out/watch" "$table" <"$out/killed.journal")" ]
+    result $? 'it prints the line that checkjournal prints'
+fi
 for folder in classroom changed-verdict classroom-timers gas-burner short-clock torn-journal season; do
     for journal in examples/"$folder"/{journal,torn,salvaged,early,late}.bin; do
         [ ! -e "$journal" ] || watches "examples/$folder/table.bin" "$journal"

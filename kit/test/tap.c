@@ -136,6 +136,13 @@ REACTS(krossvil_reaction)
 WRAP(krossvil_report_add, (TAKES(table), TAKES(input), uint64_t *report, size_t report_len),
      (BYTES(table), BYTES(input), BYTES(report)), TABLE, INPUT, give(report, report_len, 8))
 
+#ifdef HAS_krossvil_live
+#define MEMORY give(live, live_len, 4)
+WRAP(krossvil_live, (TAKES(table), uint32_t *live, size_t live_len, TAKES(input), FILLS(output), FILLS(answer)),
+     (BYTES(table), BYTES(live), BYTES(input), BYTES(output), BYTES(answer)), TABLE, MEMORY, INPUT, OUTPUT, ANSWER)
+WRAP(krossvil_watch, (TAKES(table), uint32_t *live, size_t live_len, TAKES(input), FILLS(answer)),
+     (BYTES(table), BYTES(live), BYTES(input), BYTES(answer)), TABLE, MEMORY, INPUT, ANSWER)
+#endif
 #ifdef HAS_krossvil_reaction_tight
 REACTS(krossvil_reaction_tight)
 #endif
