@@ -78,7 +78,7 @@ result $? 'it writes examples/live/journal.bin'
 live told <examples/live/sensor.txt >"$out/printed"
 [ $? -eq 0 ] && [ ! -s "$out/printed" ] && cmp -s "$out/told.journal" examples/live/journal.bin
 result $? 'started again after its end it does nothing'
-[ "$("$out/live" "$table" "$out/wide.journal" "$out/wide.memory" <<<'0 256')" = 'refused 23 at 0' ] && [ ! -s "$out/wide.journal" ]
+[ "$(live wide <<<'0 256')" = 'refused 23 at 0' ] && [ ! -s "$out/wide.journal" ]
 result $? 'an input that the table has not got is refused, and nothing is written'
 [ "$("${run[@]}" "$out/live" examples/idle-sets/old-table.bin "$out/old.journal" "$out/old.memory" <<<'0 0')" = 'refused 11 at 40' ]
 result $? 'a table that does not pass is refused'
@@ -91,7 +91,8 @@ says() { # LINE WORDS: with these words it says the line on the error stream, pr
     result $? "$line"
 }
 cp examples/classroom/journal.bin "$out/other.journal"
-says "$out/other.journal and $out/other.memory do not go together" "$table" "$out/other.journal" "$out/other.memory" <examples/live/sensor.txt
+says "$out/other.journal and $out/other.memory do not go together" "$table" "$out/other.journal" "$out/other.memory" \
+    <examples/live/sensor.txt
 cmp "$out/other.journal" examples/classroom/journal.bin
 result $? 'a journal with no memory is left as it is'
 head -c 3 "$out/told.journal" >"$out/torn.journal"
@@ -169,14 +170,12 @@ for folder in classroom changed-verdict classroom-timers gas-burner short-clock 
     done
 done
 journal=examples/classroom/journal.bin
+wrong=0
 for size in $(seq 0 123); do
-    head -c "$size" "$journal" >"$out/cut-$((size % 8)).bin"
-    [ "$((size % 8))" -ne 7 ] || for k in 0 1 2 3 4 5 6 7; do
-        printf '%s' "$("${run[@]}" "$out/watch" "$table" <"$out/cut-$k.bin")" | cmp -s - <(printf '%s' "$("${run[@]}" "$out/check" "$table" "$out/cut-$k.bin")") ||
-            stop "cut to about $size bytes the live check prints something else"
-    done
+    head -c "$size" "$journal" >"$out/cut.bin"
+    [ "$("${run[@]}" "$out/watch" "$table" <"$out/cut.bin")" = "$("${run[@]}" "$out/check" "$table" "$out/cut.bin")" ] || wrong=$((wrong + 1))
 done
-result 0 'cut anywhere, the live check prints what the check does'
+result "$wrong" 'cut anywhere, the live check prints what the check does'
 { cat "$journal"; printf '\000'; } >"$out/followed.bin"
 watches "$table" "$out/followed.bin"
 watches examples/idle-sets/old-table.bin "$journal"
@@ -187,6 +186,7 @@ printf '0 0\n1 1\n20000 1\n' | live long >/dev/null
 result $? "a journal of $(stat -c %s "$out/long.journal") bytes"
 [ "$("${run[@]}" "$out/check" "$table" "$out/long.journal")" = 'refused 19 at 0' ]
 result $? 'which is too long for the check of the whole'
-[ "$({ head -c 200004 "$out/long.journal"; printf '\021\000\000'; } | "${run[@]}" "$out/watch" "$table")" = 'refused 21 at 200004' ]
+{ head -c 200004 "$out/long.journal"; printf '\021\000\000'; } >"$out/broken.bin"
+[ "$("${run[@]}" "$out/watch" "$table" <"$out/broken.bin")" = 'refused 21 at 200004' ]
 result $? 'and of which a record is broken far behind'
 finish

@@ -115,7 +115,7 @@ enum krossvil_refusal {
     KROSSVIL_WRONG_PHASE = 26,            /* record not allowed in this phase | start of the field */
     KROSSVIL_POLL_TOO_SOON = 27,          /* poll not later than last change, or than cycle start | start of the field */
     KROSSVIL_DIFFERS = 28,                /* polled input, verdict or state differs from the machine's | start of the field */
-    KROSSVIL_TOO_SHORT = 30,              /* what is lent is too short: the buffer for what is written, the answer, the report, the memory | 0 */
+    KROSSVIL_TOO_SHORT = 30,              /* what is lent is too short: buffer for what is written, answer, report or memory | 0 */
     KROSSVIL_TOO_MANY_MOVES = 32,         /* several moves: more than 32 | 0 */
     KROSSVIL_SUMS_OR_PATH_TOO_SHORT = 33, /* several moves: fewer than krossvil_sums_len or krossvil_path_len asks for | 0 */
     KROSSVIL_WOULD_BE_TOO_LONG = 34,      /* lengthening: the journal would pass 65,536 bytes | 0 */
