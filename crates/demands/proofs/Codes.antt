@@ -40,8 +40,11 @@ use Rattle.krossvil.proofs.Restates.{shorten-writer, lengthen-writer}
 use Rattle.krossvil.proofs.Salvages.{salvage-writer}
 use Rattle.krossvil.proofs.Accepting.{Numbered, table-fine, journal-numbered}
 use Rattle.krossvil.proofs.Reports.{report-numbered}
+use Rattle.krossvil.proofs.Lives.{live-writer, watch-says, watch-fits}
 use Rattle.demands.specs.Codes.{ReadsBack, EveryCodeReadsBack}
+use Rattle.live.specs.Live.{watchOf}
 use Rattle.demands.proofs.Entries.{moves-numbered}
+use Rattle.demands.proofs.Live.{watch-numbered}
 
 -- ---- One reply
 
@@ -128,4 +131,8 @@ every-code-reads-back = (
   λ κs a r s p. writer-back (salvage-writer (now (a .0)) (now (a .1 .0))) (now (a .1 .1 .0)) _ r (p .0),
   λ κs a r s p.
       reads-back _ (report-fits (now (a .0)) (now (a .1 .0)) (now (a .1 .1 .0))) (report-numbered (now (a .0)) (now (a .1 .0)) (now (a .1 .1 .0))) r (p .0),
+  λ κs a r s p. writer-back (live-writer (now (a .0)) (now (a .1 .0)) (now (a .1 .1 .0))) (now (a .1 .1 .1 .0)) _ r (p .0),
+  λ κs a r s p.
+      let watched = watchOf (now (a .0)) (now (a .1 .0)) (now (a .1 .1 .0)) in
+      told-back _ (watch-fits watched (watch-says (now (a .0)) (now (a .1 .0)) (now (a .1 .1 .0)))) (watch-numbered watched) _ r (p .0),
 )

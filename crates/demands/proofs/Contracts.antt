@@ -15,10 +15,15 @@ use Rattle.krossvil.proofs.Stamps.{stamped-writer}
 use Rattle.krossvil.proofs.Restates.{shorten-writer, lengthen-writer}
 use Rattle.krossvil.proofs.Salvages.{salvage-writer}
 use Rattle.krossvil.proofs.Reports.{report-numbered}
-use Rattle.krossvil.specs.Host.{codeOf, journalTold, shortTold, reactionTold, movesTold, tightTold, reportTold}
+use Rattle.krossvil.specs.Host.{codeOf, journalTold, shortTold, reactionTold, movesTold, tightTold, reportTold, liveTold, watchTold}
 use Rattle.laws.proofs.Never28.{never-differs}
 use Rattle.demands.specs.Contracts.{EveryEntryDetermines, EveryRefusalKeeps, RunNeverDiffers}
-use Rattle.demands.proofs.Entries.{answer-kept, told-kept, told-numbered, entry-kept, host-kept, moves-numbered}
+use Rattle.live.specs.Answer as live-answer
+use Rattle.live.specs.Live.{watchOf}
+use Rattle.krossvil.proofs.Writers.{said}
+use Rattle.krossvil.proofs.Lives.{live-writer}
+use Rattle.demands.proofs.Live.{live-kept, watch-kept, watch-numbered}
+use Rattle.demands.proofs.Entries.{made-kept, answer-kept, told-kept, told-numbered, entry-kept, host-kept, moves-numbered}
 
 -- ---- The entries
 
@@ -76,6 +81,15 @@ every-entry-determines = (
   record { asks-nothing = λ κs a. tt; one-outcome = λ κs a r r′ s s′ p p′. one-lent p p′ },
   record { asks-nothing = λ κs a. tt; one-outcome = λ κs a r r′ s s′ p p′. two-lent p p′ },
   record { asks-nothing = λ κs a. tt; one-outcome = λ κs a r r′ s s′ p p′. one-lent p p′ },
+  record { asks-nothing = λ κs a. tt; one-outcome = λ κs a r r′ s s′ p p′. two-lent p p′ },
+  record { asks-nothing = λ κs a. tt; one-outcome = λ κs a r r′ s s′ p p′. one-lent p p′ },
+  record { asks-nothing = λ κs a. tt; one-outcome = λ κs a r r′ s s′ p p′. (p ∙ sym p′, refl) },
+  record {
+    asks-nothing = λ κs a. tt;
+    one-outcome = λ κs a r r′ s s′ p p′.
+        (p .0 ∙ sym (p′ .0), three (p .1 .1 .1 ∙ sym (p′ .1 .1 .1)) (p .1 .1 .0 ∙ sym (p′ .1 .1 .0)) (p .1 .0 ∙ sym (p′ .1 .0)));
+  },
+  record { asks-nothing = λ κs a. tt; one-outcome = λ κs a r r′ s s′ p p′. two-lent p p′ },
 )
 
 pub every-refusal-keeps : EveryRefusalKeeps
@@ -112,6 +126,29 @@ every-refusal-keeps = (
   λ κs a r s p other.
       let report = now (a .1 .1 .0) in
       one (p .1 ∙ buffer-kept (reportTold (now (a .0)) (now (a .1 .0)) report) (report-numbered (now (a .0)) (now (a .1 .0)) report) _ report (λ e. other (p .0 ∙ e))),
+  λ κs a r s p other.
+      let n = now (a .1 .0) in
+      let out = now (a .1 .1 .1 .0) in
+      let kept = live-kept (now (a .0)) n (now (a .1 .1 .0)) (length out) (λ e. other (ap (λ x. numberIn (live-answer.replyOf x)) (p .0) ∙ e)) in
+      let same = made-kept (live-writer (now (a .0)) n (now (a .1 .1 .0))) out (λ e. other (ap (λ x. numberIn (live-answer.replyOf x)) (p .0) ∙ e)) in
+      two (p .1 .1 ∙ kept) (p .1 .0 ∙ same),
+  λ κs a r s p other. one (p .1 ∙ watch-kept (now (a .0)) (now (a .1 .0)) (now (a .1 .1 .0)) (λ e. other (ap (λ x. numberIn (live-answer.watchReply x)) (p .0) ∙ e))),
+  λ κs a r s p other.
+      let n = now (a .1 .0) in
+      let event = now (a .1 .1 .0) in
+      let out = now (a .1 .1 .1 .0) in
+      let answer = now (a .1 .1 .1 .1 .0) in
+      let told-as = liveTold (now (a .0)) n event out (length answer) in
+      let numbered = told-numbered _ (length answer) (said (live-writer (now (a .0)) n event) (length out) .1) in
+      let refused : codeOf told-as ≡ 0 → ⊥ = λ e. other (p .0 ∙ e) in
+      three (p .1 .1 .1 ∙ buffer-kept told-as numbered _ n refused) (p .1 .1 .0 ∙ buffer-kept told-as numbered _ out refused) (p .1 .0 ∙ answer-kept told-as answer refused),
+  λ κs a r s p other.
+      let n = now (a .1 .0) in
+      let answer = now (a .1 .1 .1 .0) in
+      let told-as = watchTold (now (a .0)) n (now (a .1 .1 .0)) (length answer) in
+      let numbered = told-numbered _ (length answer) (watch-numbered (watchOf (now (a .0)) n (now (a .1 .1 .0)))) in
+      let refused : codeOf told-as ≡ 0 → ⊥ = λ e. other (p .0 ∙ e) in
+      two (p .1 .1 ∙ buffer-kept told-as numbered _ n refused) (p .1 .0 ∙ answer-kept told-as answer refused),
 )
 
 pub run-never-differs : RunNeverDiffers

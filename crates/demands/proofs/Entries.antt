@@ -43,7 +43,7 @@ told-numbered reply room h = go (room <? 4 * length (valuesIn reply))
 -- ---- An entry that writes
 
 -- What was made goes into the buffer only with an answer that gives numbers.
-made-kept : (w : Writer) (buffer : List ℕ) → (numberIn (w .replyOf (answerIn (w .short) (w .makes) (length buffer))) ≡ 0 → ⊥) → bufferIn (w .makes) buffer ≡ buffer
+pub made-kept : (w : Writer) (buffer : List ℕ) → (numberIn (w .replyOf (answerIn (w .short) (w .makes) (length buffer))) ≡ 0 → ⊥) → bufferIn (w .makes) buffer ≡ buffer
 unfolding answerIn bufferIn
 made-kept w buffer other = go (w .makes) (w .tells) other
   where

@@ -5,6 +5,7 @@ pub mod Tight
 pub mod Calculators
 pub mod Contracts
 pub mod Entries
+pub mod Live
 pub mod Codes
 pub mod HostReports
 pub mod Host

@@ -1,4 +1,9 @@
 -- The demands, as specs/Statements lists them.
+use Rattle.records.specs.Form.{journal, stimulus}
+use Rattle.live.proofs.AsWhole.{live-is-whole}
+use Rattle.live.proofs.Counts.{numbers-at-the-end}
+use Rattle.live.proofs.Agree.{check-takes-what-is-made}
+use Rattle.live.proofs.AnyLength.{however-long, comes-back}
 use Rattle.runs.proofs.Automaton.{machine-is-automaton}
 use Rattle.tight.proofs.Below.{never-above}
 use Rattle.laws.proofs.Tables.{passes-exactly, holds-that-table}
@@ -44,5 +49,13 @@ the-demands = (
     journal-moves = accepted-not-too-late-by-moves;
     every-tight = runs-not-too-late-tight;
     journal-tight = tight-not-too-late;
+  },
+  record {
+    as-runtime = live-is-whole stimulus;
+    as-check = live-is-whole journal;
+    same-numbers = numbers-at-the-end;
+    agree = check-takes-what-is-made;
+    any-length = however-long stimulus;
+    comes-back = comes-back stimulus;
   },
 )

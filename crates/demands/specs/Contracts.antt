@@ -11,7 +11,9 @@ use Rattle.convert.specs.Answer as convert-answer
 use Rattle.writing.specs.Answer as stamped-answer
 use Rattle.restate.specs.Answer as restate-answer
 use Rattle.salvage.specs.Answer as salvage-answer
+use Rattle.live.specs.Answer as live-answer
 use Rattle.demands.specs.Entries.{Contract, tableCheck, journalCheck, runtimeRun, reactionReact, movesReact, converter, stampedReader, shortCheck, shortener, lengthener, tightReact, salvager, reportBegin, reportAdd}
+use Rattle.demands.specs.Entries.{liveTakes, liveWatches, liveLooks, liveInC, watchInC}
 use Rattle.demands.specs.Entries.{tableInC, journalInC, runInC, reactionInC, movesInC, converterInC, stampedInC, shortInC, shortenerInC, lengthenerInC, tightInC, salvagerInC, reportInC}
 
 -- ---- Every answer is determined
@@ -30,6 +32,7 @@ EveryEntryDetermines =
     × Determines tableInC × Determines journalInC × Determines runInC × Determines reactionInC × Determines movesInC × Determines converterInC
     × Determines stampedInC × Determines shortInC × Determines shortenerInC × Determines lengthenerInC × Determines tightInC × Determines salvagerInC
     × Determines reportInC
+    × Determines liveTakes × Determines liveWatches × Determines liveLooks × Determines liveInC × Determines watchInC
 
 -- ---- A refusal changes no lent byte
 
@@ -50,6 +53,8 @@ EveryRefusalKeeps =
     × RefusalKeeps shortInC (λ κs r. r) × RefusalKeeps shortenerInC (λ κs r. r) × RefusalKeeps lengthenerInC (λ κs r. r) × RefusalKeeps tightInC (λ κs r. r)
     × RefusalKeeps salvagerInC (λ κs r. r)
     × RefusalKeeps reportInC (λ κs r. r)
+    × RefusalKeeps liveTakes (λ κs r. numberIn (live-answer.replyOf r)) × RefusalKeeps liveWatches (λ κs r. numberIn (live-answer.watchReply r))
+    × RefusalKeeps liveInC (λ κs r. r) × RefusalKeeps watchInC (λ κs r. r)
 
 -- ---- The runtime never gives 28
 

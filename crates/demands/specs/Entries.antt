@@ -34,6 +34,16 @@ use Rattle.report.proofs.begin.Kinds as begin-kinds
 use Rattle.report.proofs.begin.Reads as begin
 use Rattle.report.proofs.Report.add.Kinds as add-kinds
 use Rattle.report.proofs.Report.add.Reads as add
+use Rattle.live.proofs.take_event.Kinds as live-kinds
+use Rattle.live.proofs.take_event.Reads as live
+use Rattle.live.proofs.watch_record.Kinds as watch-kinds
+use Rattle.live.proofs.watch_record.Reads as watch
+use Rattle.live.proofs.look_at_record.Kinds as look-kinds
+use Rattle.live.proofs.look_at_record.Reads as look
+use Rattle.krossvil.proofs.living.krossvil_live.Kinds as c-live-kinds
+use Rattle.krossvil.proofs.living.krossvil_live.Reads as c-live
+use Rattle.krossvil.proofs.living.krossvil_watch.Kinds as c-watch-kinds
+use Rattle.krossvil.proofs.living.krossvil_watch.Reads as c-watch
 use Rattle.krossvil.proofs.tables.krossvil_check_table.Kinds as c-table-kinds
 use Rattle.krossvil.proofs.tables.krossvil_check_table.Reads as c-table
 use Rattle.krossvil.proofs.checking.krossvil_check_journal.Kinds as c-journal-kinds
@@ -189,3 +199,24 @@ salvagerInC =
 -- What is lent are the report's numbers.
 abbrev pub reportInC : Contract
 reportInC = entry 3 c-report-kinds.ps c-report-kinds.r c-report.Pre c-report.Post (λ κs a. now (a .1 .1 .0) ∷ []) (λ κs s. now (s .1 .1 .0) ∷ [])
+
+-- Of a live run the memory's numbers are lent, and the buffer for the record; in C the answer besides.
+abbrev pub liveTakes : Contract
+liveTakes =
+    entry 4 live-kinds.ps live-kinds.r live.Pre live.Post (λ κs a. now (a .1 .0) ∷ now (a .1 .1 .1 .0) ∷ []) (λ κs s. now (s .1 .0) ∷ now (s .1 .1 .1 .0) ∷ [])
+
+abbrev pub liveWatches : Contract
+liveWatches = entry 3 watch-kinds.ps watch-kinds.r watch.Pre watch.Post (λ κs a. now (a .1 .0) ∷ []) (λ κs s. now (s .1 .0) ∷ [])
+
+abbrev pub liveLooks : Contract
+liveLooks = entry 3 look-kinds.ps look-kinds.r look.Pre look.Post (λ κs a. []) (λ κs s. [])
+
+abbrev pub liveInC : Contract
+liveInC =
+    entry 5 c-live-kinds.ps c-live-kinds.r c-live.Pre c-live.Post
+    (λ κs a. now (a .1 .0) ∷ now (a .1 .1 .1 .0) ∷ now (a .1 .1 .1 .1 .0) ∷ []) (λ κs s. now (s .1 .0) ∷ now (s .1 .1 .1 .0) ∷ now (s .1 .1 .1 .1 .0) ∷ [])
+
+abbrev pub watchInC : Contract
+watchInC =
+    entry 4 c-watch-kinds.ps c-watch-kinds.r c-watch.Pre c-watch.Post
+    (λ κs a. now (a .1 .0) ∷ now (a .1 .1 .1 .0) ∷ []) (λ κs s. now (s .1 .0) ∷ now (s .1 .1 .1 .0) ∷ [])

@@ -1,5 +1,7 @@
 -- The demands of docs/RULES.md, "The demands", sentence by sentence: each statement by its name, and what it says. proofs/Statements proves all.
-use Rattle.records.specs.Form.{journal, short}
+use Rattle.records.specs.Form.{journal, stimulus, short}
+use Rattle.live.specs.Whole.{LiveIsWhole}
+use Rattle.live.specs.Agreeing.{NumbersAtTheEnd, CheckTakesWhatIsMade, AnyLength, LiveComesBack}
 use Rattle.runs.specs.Automaton.{MachineIsAutomaton}
 use Rattle.tight.specs.Below.{NeverAbove}
 use Rattle.laws.specs.Tables.{PassesExactly, HoldsThatTable}
@@ -71,6 +73,21 @@ pub record Kept : Type 0 where
   pub every-tight : RunsNotTooLateTight
   pub journal-tight : TightNotTooLate
 
+-- And all of it one record at a time, in a memory that the host keeps: docs/RULES.md, "Live runs".
+pub record OneAtATime : Type 0 where
+  -- Any stimulus, cut into its fields, is run as the runtime runs the whole, and refused where and as the whole is.
+  pub as-runtime : LiveIsWhole stimulus
+  -- So is any journal checked as the check goes over the whole, ..
+  pub as-check : LiveIsWhole journal
+  -- .. with the numbers of acceptance at its end.
+  pub same-numbers : NumbersAtTheEnd
+  -- What the live runtime makes, the live check takes, and both keep the same.
+  pub agree : CheckTakesWhatIsMade
+  -- However many events were taken: their records are a run of the machine, which is the automaton's.
+  pub any-length : AnyLength stimulus
+  -- A run goes on from a memory that was kept as if nothing had happened.
+  pub comes-back : LiveComesBack stimulus
+
 -- All of them.
 abbrev pub TheDemands : Type 0
-TheDemands = Answered × Right × Kept
+TheDemands = Answered × Right × Kept × OneAtATime
