@@ -3,6 +3,7 @@
  * sentence only says why.
  */
 
+import { sayNumber } from './explain/memory.js';
 import { explainTrace } from './explain/records.js';
 import { explainTable, isTableRefusal } from './explain/table.js';
 import { counted, numbered, quoted, say } from './names.js';
@@ -47,6 +48,7 @@ export const MEANINGS = new Map([
   [33, 'the memory for the sums or the path is too short'],
   [34, 'the journal would be too long'],
   [35, 'the report is full'],
+  [36, 'a number of the memory is out of range'],
 ]);
 
 /**
@@ -117,6 +119,15 @@ export function explainRoom({ number }, given = {}) {
   if (number === 33) return plain(['The memory for the sums, or for the path, is too short for so many moves.']);
   const numbers = given.numbers === undefined ? '' : say` The report has room for ${counted(given.numbers, 'number')}.`;
   return plain([say`The memory that was lent is too short for what is to be written.${numbers}`]);
+}
+
+/**
+ * Which number of a live run's memory is out of range, and what it may be.
+ * @param {Table} table @param {Refusal} refusal @param {Uint32Array} memory
+ * @returns {Explanation}
+ */
+export function explainMemory(table, { place }, memory) {
+  return plain([sayNumber(table, memory, place), 'It is not the memory that a live run under this table has left.'], place);
 }
 
 /**

@@ -2,7 +2,7 @@
  * The proved library, and nothing else: bytes in, an answer or a refusal out. Nothing is judged here.
  *
  * Each function takes what include/krossvil.h says, save for buffers, and answers {ok: true, ..} with numbers under their names, or
- * {ok: false, number, place}. Buffers are always long enough, so 30 comes only from a report that is too short.
+ * {ok: false, number, place}. Buffers are always long enough, so 30 comes only from a report or a memory that is too short.
  */
 
 /** @typedef {import('./types.js').Library} Library */
@@ -11,6 +11,10 @@
 
 const JOURNAL_MAX = 65536;
 const REPORT_MAX = 1089;
+const LIVE = 17;
+
+/** The longest field that bytes can claim, which is longer than any journal: whether it has run out tells 20 from 21. */
+const FIELD_MAX = 3 + 65535;
 
 /**
  * Bytes behind these change no answer. Of a journal one more than the limit is enough to be refused with 19. Of a table fields with their
@@ -21,12 +25,13 @@ export const BYTES_READ = 70000;
 /** So many bytes of each argument are handed over. */
 const SIZES = {
   table: BYTES_READ,
-  input: JOURNAL_MAX + 1,
+  input: FIELD_MAX,
   output: JOURNAL_MAX,
   sums: 4 * 32 * 32,
   path: 63,
   answer: 28,
   report: 8 * REPORT_MAX,
+  live: 4 * LIVE,
 };
 
 const ACCEPTANCE = ['end', 'cycles', 'moves', 'state', 'output', 'left', 'longest'];
@@ -228,6 +233,43 @@ class Krossvil {
     return answer;
   }
 
+  /**
+   * The record that the next event of a stimulus makes; `memory` goes on to what is behind it.
+   * @param {Uint8Array} table @param {Uint32Array} memory @param {Uint8Array} event
+   */
+  live(table, memory, event) {
+    const names = ['length', 'state', 'output', 'phase', 'left', 'deadline'];
+    return this.#remembering(memory, (lent) => {
+      const args = [this.module.give('table', table), lent, this.module.give('input', event)];
+      return withoutLength(this.module.write('krossvil_live', args, names, (a) => a.length));
+    });
+  }
+
+  /**
+   * Takes the next record of a journal; `memory` goes on to what is behind it. The numbers are those of the journal up to there.
+   * @param {Uint8Array} table @param {Uint32Array} memory @param {Uint8Array} record
+   */
+  watch(table, memory, record) {
+    return this.#remembering(memory, (lent) => {
+      const args = [this.module.give('table', table), lent, this.module.give('input', record)];
+      return this.module.call('krossvil_watch', args, ACCEPTANCE);
+    });
+  }
+
+  /**
+   * A call that is lent the memory of a live run. Numbers behind its own are the host's, and are not handed over.
+   * @param {Uint32Array} memory @param {(lent: (number|bigint)[]) => any} ask
+   */
+  #remembering(memory, ask) {
+    const { memory: { buffer }, rooms: { live: { at } } } = this.module;
+    const used = memory.subarray(0, LIVE);
+    const room = new Uint32Array(buffer, at, used.length);
+    room.set(used);
+    const answer = ask([at, BigInt(used.length)]);
+    used.set(room);
+    return answer;
+  }
+
   /** @param {Uint8Array} table @param {Uint8Array} input */
   #two(table, input) {
     return [this.module.give('table', table), this.module.give('input', input)];
@@ -254,6 +296,11 @@ class Krossvil {
 export async function loadLibrary(wasm) {
   const { instance } = await WebAssembly.instantiate(wasm, {});
   return new Krossvil(new Module(instance.exports));
+}
+
+/** The memory of a live run that has not begun. */
+export function newMemory() {
+  return new Uint32Array(LIVE);
 }
 
 /** A report that has no journals yet; long enough for every table. */

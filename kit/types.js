@@ -169,6 +169,7 @@
  *   explainJournal(trace: Trace): Explanation       a trace that was refused, of a journal or of a stimulus
  *   explainReaction(table: Table, refusal: Refusal, question: {states: number, inputs: number, moves?: number}): Explanation
  *   explainRoom(refusal: Refusal, given?: {bytes?: number, numbers?: number}): Explanation     30, 33, 34, 35
+ *   explainMemory(table: Table, refusal: Refusal, memory: Uint32Array): Explanation           36
  *   isTableRefusal(number: number): boolean
  *   narrate(trace: Trace, step: Step): string       one sentence for an accepted record: why it is so
  *   MEANINGS: Map<number, string>                   every number in a few words
@@ -260,6 +261,7 @@
  * library.js exports
  *   loadLibrary(wasm: BufferSource): Promise<Library>
  *   BYTES_READ: bytes behind these change no answer
+ *   newMemory(): Uint32Array                             the memory of a live run that has not begun: 17 numbers, which live and watch change
  *   newReport(): BigUint64Array                          a report of no journals
  *   readReport(report: BigUint64Array, states: number, inputs: number): {journals, dwell: number[], pairs: number[][], entries: number[]}
  *
@@ -283,6 +285,10 @@
  * @property {(table: Uint8Array, journal: Uint8Array) =>
  *            {ok: true, kept: number, dropped: number, number: number, place: number, bytes: Uint8Array} | Refused} salvage
  * @property {(table: Uint8Array, journal: Uint8Array, report: BigUint64Array) => {ok: true} | Refused} reportAdd
+ * @property {(table: Uint8Array, memory: Uint32Array, event: Uint8Array) => {ok: true, state: number, output: number, phase: number,
+ *            left: number, deadline: number, bytes: Uint8Array} | Refused} live      the bytes are those of the record
+ * @property {(table: Uint8Array, memory: Uint32Array, record: Uint8Array) => ({ok: true} & Acceptance) | Refused} watch
+ *            the numbers are those of the journal, as if it ended with this record
  */
 
 export {};

@@ -3,7 +3,7 @@ import { readFileSync } from 'node:fs';
 import { test } from 'node:test';
 import { sayConverted, sayDwell, sayLeft, sayPath, sayReaction, saySalvage } from '../answers.js';
 import { EXAMPLES } from '../examples.js';
-import { MEANINGS, explainJournal, explainReaction, explainRefusal, explainRoom } from '../explain.js';
+import { MEANINGS, explainJournal, explainMemory, explainReaction, explainRefusal, explainRoom } from '../explain.js';
 import { decodeTable } from '../fields.js';
 import { newReport, readReport } from '../library.js';
 import { FORM_WORDS, originAt, readText } from '../notation.js';
@@ -12,7 +12,8 @@ import { library, sample } from './core.js';
 import { REFUSALS, checkInto, movesWith, runInto } from './refusals.js';
 
 /** The explanation of a sample. */
-function explain({ kind, table, names, bytes, question, given }, refusal) {
+function explain({ kind, table, names, bytes, question, given, memory }, refusal) {
+  if (kind === 'memory') return explainMemory(decodeTable(table, names), refusal, memory);
   if (kind === 'reaction') return explainReaction(decodeTable(table, names), refusal, question);
   if (kind === 'room') return explainRoom(refusal, given);
   const trace = kind === 'stimulus' ? traceStimulus(library, { table, stimulus: bytes, names })

@@ -2,7 +2,7 @@ import assert from 'node:assert/strict';
 import { readFileSync } from 'node:fs';
 import { test } from 'node:test';
 import { encodeTable } from '../fields.js';
-import { newReport, readReport } from '../library.js';
+import { newMemory, newReport, readReport } from '../library.js';
 import { readText } from '../notation.js';
 import { wholeSet } from '../sets.js';
 import { Chance } from './chance.js';
@@ -78,6 +78,53 @@ test('a season of journals', () => {
   assert.deepEqual(library.reportAdd(table, journal, longer), { ok: true });
   assert.ok(longer.subarray(9).every((number) => number === 7n));
   assert.equal(longer[1], 11n);
+});
+
+/** The fields of bytes in which each is whole. */
+function fieldsOf(bytes) {
+  const fields = [];
+  for (let at = 0; at < bytes.length; at += fields.at(-1).length) fields.push(bytes.subarray(at, at + 3 + bytes[at + 2]));
+  return fields;
+}
+
+test('one event and one record at a time: the journal and the numbers are those of the whole, and both have the same memory', () => {
+  for (const name of ['classroom', 'gas-burner']) {
+    const [bytes, stimulus] = [file(`${name}/table.bin`), file(`${name}/stimulus.bin`)];
+    const [ran, watched] = [newMemory(), newMemory()];
+    const written = [];
+    let last = null;
+    for (const event of fieldsOf(stimulus)) {
+      const lived = library.live(bytes, ran, event);
+      assert.ok(lived.ok);
+      last = library.watch(bytes, watched, lived.bytes);
+      assert.deepEqual(watched, ran);
+      assert.deepEqual([lived.state, lived.output], [last.state, last.output]);
+      written.push(...lived.bytes);
+    }
+    assert.deepEqual(Uint8Array.from(written), library.run(bytes, stimulus).bytes);
+    assert.deepEqual(last, library.checkJournal(bytes, Uint8Array.from(written)));
+    assert.deepEqual(library.live(bytes, ran, stimulus.subarray(0, 4)), { ok: false, number: 22, place: 0 });
+  }
+});
+
+test('what a live run answers; a refusal leaves its memory, and numbers behind it are not touched', () => {
+  const memory = new Uint32Array(19).fill(7, 17);
+  const events = fieldsOf(file('classroom/stimulus.bin'));
+  const answers = events.slice(0, 4).map((event) => library.live(table, memory, event));
+  const [opening, , , free] = answers;
+  assert.deepEqual(opening, { ok: true, state: 0, output: 0, phase: 0, left: 0, deadline: 3, bytes: journal.slice(0, 4) });
+  assert.deepEqual(free, { ok: true, state: 0, output: 0, phase: 3, left: 0, deadline: 3, bytes: journal.slice(20, 28) });
+  assert.deepEqual([...memory.subarray(17)], [7, 7]);
+  const kept = memory.slice();
+  assert.deepEqual(library.live(table, memory, events[3]), { ok: false, number: 26, place: 0 });
+  assert.deepEqual(library.watch(table, memory, journal.subarray(28)), { ok: false, number: 22, place: 8 });
+  assert.deepEqual(library.watch(table, memory.subarray(0, 16), journal.subarray(28, 36)), { ok: false, number: 30, place: 0 });
+  assert.deepEqual(memory, kept);
+  const claiming = new Uint8Array(65538).fill(0xff);
+  assert.deepEqual(library.watch(table, memory, claiming), { ok: false, number: 21, place: 0 });
+  assert.deepEqual(library.watch(table, memory, claiming.subarray(1)), { ok: false, number: 20, place: 0 });
+  memory[4] = 2;
+  assert.deepEqual(library.live(table, memory, events[4]), { ok: false, number: 36, place: 4 });
 });
 
 test('reaction over several moves', () => {
@@ -162,5 +209,5 @@ test("the header has the package's version", () => {
 test('every function of the header was called', () => {
   const declared = [...header.matchAll(/^uint64_t (krossvil_[a-z_]*)\(/gm)].map(([, name]) => name);
   assert.deepEqual(declared.filter((name) => !called.has(name)), []);
-  assert.equal(declared.length, 13);
+  assert.equal(declared.length, 15);
 });

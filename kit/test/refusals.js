@@ -1,5 +1,6 @@
 /** A sample for every number that the library can give, and what its sentences say. */
 
+import { newMemory } from '../library.js';
 import { readText } from '../notation.js';
 import { library, sample } from './core.js';
 
@@ -65,6 +66,14 @@ function room(number, given, says, ask) {
   return { number, place: 0, says, kind: 'room', given, ask };
 }
 
+/** A live run whose memory has a number out of range: 17 numbers of a run that has begun, with these in their place. */
+function memory(number, place, numbers, says, text = CLASSROOM) {
+  const { bytes, names } = part(text, 'table');
+  const kept = Uint32Array.of(1, ...Array(16).fill(0));
+  for (const [at, value] of Object.entries(numbers)) kept[at] = value;
+  return { number, place, says, kind: 'memory', table: bytes, names, memory: kept, ask: () => library.watch(bytes, kept, JOURNAL.subarray(0, 4)) };
+}
+
 const STIMULUS = part(CLASSROOM, 'stimulus').bytes;
 const LONG_SHORT = `krossvil short journal\ninput no_train\n${'+0 change no_train\n'.repeat(8191)}+0 end\n`;
 const TABLE = part(CLASSROOM, 'table').bytes;
@@ -127,10 +136,16 @@ export const REFUSALS = [
   room(30, { numbers: 3 }, /memory that was lent is too short.*room for 3 numbers/, () => library.reportAdd(TABLE, JOURNAL, new BigUint64Array(3))),
   room(30, {}, /memory that was lent is too short/, runInto(JOURNAL.length - 1)),
   room(30, {}, /memory that was lent is too short/, checkInto(27)),
+  room(30, {}, /memory that was lent is too short/, () => library.watch(TABLE, newMemory().subarray(1), JOURNAL.subarray(0, 4))),
   several(32, 0, 3, 1, 33, /33 moves were asked for; at most 32 are calculated/),
   several(10, 2, 2, 1, 2, /from 'busy' input 'no_train' leads to 'idle', which is not among them/),
   several(33, 0, 3, 1, 2, /memory for the sums, or for the path, is too short for so many moves/, movesWith(3, 63)),
   several(33, 0, 3, 1, 2, /memory for the sums, or for the path, is too short for so many moves/, movesWith(4, 2)),
   room(34, { bytes: SHORT.length }, /would have 65,539 bytes; a journal has at most 65,536/, () => library.lengthen(TABLE, SHORT)),
   room(35, {}, /has 1,000 journals already/, () => library.reportAdd(TABLE, JOURNAL, new BigUint64Array(9).fill(1000n, 0, 1))),
+  memory(36, 0, { 0: 3, 1: 9 }, /Number 0 of the memory, the stage, is 3; it may be at most 2\./),
+  memory(36, 4, { 4: 2, 8: 7 }, /Number 4 of the memory, the state, is 2; it may be at most 1\./),
+  memory(36, 7, { 7: 8, 8: 7 }, /Number 7 of the memory, the start of the cycle, is 8; it may be at most 7, the time of the record before\./),
+  memory(36, 9, { 9: 4, 8: 7 }, /Number 9 of the memory, the longest cycle, is 4; it may be at most 3\./),
+  memory(36, 14, { 14: 2000000001 }, /Number 14 of the memory, the count of ticks, is 2,000,000,001; it may be at most 2,000,000,000\./),
 ];
