@@ -83,7 +83,7 @@ function ticked(table, m, state, time) {
  * @param {Table} table @param {Machine|null} m @param {JournalRecord} record
  * @returns {Machine}
  */
-function after(table, m, record) {
+export function machineAfter(table, m, record) {
   const { kind, time } = record;
   const value = record.value ?? 0;
   if (kind === 'input' || !m) return opened(table, value);
@@ -102,7 +102,7 @@ function stepsOf(table, records, stop) {
   let machine = null;
   return records.map((record, number) => {
     const before = number <= stop ? machine : null;
-    machine = number < stop ? after(table, machine, record) : null;
+    machine = number < stop ? machineAfter(table, machine, record) : null;
     return { record, number, before, after: machine };
   });
 }
@@ -112,7 +112,7 @@ function stepsOf(table, records, stop) {
  * @param {JournalRecord[]} records @param {number} place @param {Form} form
  * @returns {JournalRecord}
  */
-function missingRecord(records, place, form) {
+export function missingRecord(records, place, form) {
   const time = records.length > 0 ? records[records.length - 1].time : 0;
   return { place, length: 0, kind: 'bytes', time, written: null, value: null, form };
 }
@@ -168,6 +168,14 @@ export function traceStimulus(library, { table, stimulus, names }) {
   const shown = ran.ok ? decodeRecords(ran.bytes, 'journal') : [];
   const steps = stepsOf(decoded, records.map((record, k) => (k < stop ? { ...record, value: shown[k]?.value ?? null } : record)), stop);
   return { table: decoded, names: decoded.names, tableBytes: table, journal: stimulus, form: 'stimulus', steps, stop, ...verdict };
+}
+
+/**
+ * The bytes from a record on.
+ * @param {Trace} trace @param {JournalRecord} record
+ */
+export function bytesFrom({ journal, from = 0 }, { place }) {
+  return journal.subarray(place - from);
 }
 
 /**

@@ -116,11 +116,14 @@
  *
  * A stamped journal is read first, then its long form is checked. If the check refuses it, `refused.place` is the library's place in
  * the long form, and `at` the place of the same record in the stamped journal. In every other case `at` is `refused.place`.
+ *
+ * Of a journal that was read record by record and refused there are only the steps that sentences need.
  * @typedef {Object} Trace
  * @property {Table} table
  * @property {Names} names
  * @property {Uint8Array} tableBytes
- * @property {Uint8Array} journal     the bytes given
+ * @property {Uint8Array} journal     the bytes given; of a journal that was read record by record the field that is refused
+ * @property {number} [from]          where that field stands, if it was; more may follow it
  * @property {Form} form             `stimulus` only from traceStimulus
  * @property {Uint8Array|null} long   of a stamped journal that could be read, its long form; else null
  * @property {Step[]} steps
@@ -148,6 +151,10 @@
  *       Its records before the refusal have the values that the runtime found.
  *   askJournal(library: Library, table: Uint8Array, journal: Uint8Array, form: Form): the library's answer alone
  *   accepted(trace: Trace): Step[]                  the steps that were accepted
+ *   bytesFrom(trace: Trace, record: Record): Uint8Array   the bytes that there are from a record on
+ *   machineAfter(table: Table, machine: Machine|null, record: Record): Machine   after a record that was accepted
+ * watching.js exports
+ *   class Watching: a journal of any length; take(piece) and finish() give the trace of the refusal, or null
  *   clocks(table: Table, machine: Machine): Clock[] what can hold a test in the machine's state
  *   holding(table: Table, machine: Machine, time: number): Clock[]   those that hold a test of the polled input at that time
  *   freeFrom(table: Table, machine: Machine, time: number): number   the first time from then on at which none of them holds

@@ -9,8 +9,11 @@ import { tell, told } from './refusals.js';
 import { JOURNALS, shownFile } from './sources.js';
 
 /** @typedef {import('./asking.js').Asking} Asking */
+/** @typedef {import('./refusals.js').Told} Told */
 /** @typedef {import('./sources.js').Source} Source */
 /** @typedef {import('./sources.js').TableSource} TableSource */
+
+const TOO_LONG = 19;
 
 /**
  * The library's answer for a journal of any form.
@@ -34,6 +37,17 @@ export function tableRefused(asking, table) {
 }
 
 /**
+ * A journal that is too long has a command of its own.
+ * @param {Told} told
+ * @returns {Told}
+ */
+function namingWatch(told) {
+  const { refusal, trace, explanation } = told;
+  if (refusal.number !== TOO_LONG || trace?.form !== 'journal') return told;
+  return { ...told, explanation: { ...explanation, sentences: [...explanation.sentences, "'krossvil watch' checks a journal of any length."] } };
+}
+
+/**
  * @param {Asking} asking @param {TableSource} table @param {Source} source @param {boolean} many
  */
 function checkOne(asking, table, source, many) {
@@ -41,7 +55,7 @@ function checkOne(asking, table, source, many) {
   const before = many ? `${shownFile(source.file)}: ` : '';
   const answer = ask(asking, table, source);
   if (!answer.ok) {
-    tell(asking, told(asking, table, source, answer), before);
+    tell(asking, namingWatch(told(asking, table, source, answer)), before);
     return REFUSED;
   }
   const { ok, ...numbers } = answer;

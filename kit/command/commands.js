@@ -97,6 +97,18 @@ export const COMMANDS = {
     more: ['Nothing is judged: what the text says is written. A mistake in the text is shown with its line and column.'],
     examples: [['krossvil bytes classroom.kv --as journal -o journal.bin', 'the journal of the text']],
   },
+  watch: {
+    group: 'in the yard', files: 'TABLE [JOURNAL]', count: [1, 2], options: ['follow'], module: () => import('./watch.js'),
+    says: 'is a journal of any length a run of the table? if not, why not',
+    more: ['The journal is read record by record, from a file or a pipe, and is never in memory as a whole. A record that is refused is said '
+      + 'at once, with its byte in all that was read, and what follows is not read.',
+    'With --follow a file that grows is read on until its end record stands there, or one that is refused.',
+    'A slip that explains a whole journal is looked for by `check` only.'],
+    examples: [
+      ['krossvil watch table.bin journal.bin', 'of many records, as a controller leaves them in a season'],
+      ['krossvil watch table.bin journal.bin --follow', 'while the controller writes it'],
+    ],
+  },
   left: {
     group: 'in the yard', files: 'TABLE [JOURNAL]', count: [1, 2], options: ['as'], module: () => import('./records.js'),
     says: 'what holds at the end of the journal, and for how long',

@@ -1,6 +1,6 @@
 /** The world outside: files, the streams, other programs. Tests put another in its place. */
 
-import { closeSync, openSync, readSync, readdirSync, statSync, writeSync } from 'node:fs';
+import { closeSync, fstatSync, openSync, readSync, readdirSync, statSync, writeSync } from 'node:fs';
 import { createRequire } from 'node:module';
 import { join } from 'node:path';
 import { isatty } from 'node:tty';
@@ -14,6 +14,8 @@ import { Trouble } from './trouble.js';
  * @property {(path: string, limit: number, noted: boolean) => Uint8Array} read   `-` is the standard input; no more than the limit is read,
  *                                                                   and what was read may be overwritten in memory by the next reading.
  *                                                                   A file that is noted is never written to
+ * @property {(path: string, follow: boolean) => Iterable<Uint8Array>} pieces   of a file, up to its end; each is good up to the next. One that is
+ *                                                                   followed has no end: where it has no more for now comes an empty piece
  * @property {(path: string) => void} keep                           a file that is never written to, as if it had been read
  * @property {(path: string) => boolean} isOutput                    is it the standard output, by any name?
  * @property {(folder: string) => string[]} list                     its files
@@ -29,6 +31,9 @@ import { Trouble } from './trouble.js';
  */
 
 const [INPUT, OUTPUT, ERRORS] = [0, 1, 2];
+
+/** A file that grows is looked at so often, in milliseconds. */
+const FOLLOWED_EVERY = 100;
 
 /** Longer than any journal, so that most files fit; it is used again and again, which is much faster than memory that is new. */
 const ROOM = Buffer.alloc(70000);
@@ -60,9 +65,14 @@ function patiently(act) {
       const { code } = /** @type {any} */ (error);
       if (code === 'EOF') return 0;
       if (code !== 'EAGAIN') throw error;
-      Atomics.wait(new Int32Array(new SharedArrayBuffer(4)), 0, 0, 10);
+      pause(10);
     }
   }
+}
+
+/** @param {number} milliseconds */
+function pause(milliseconds) {
+  Atomics.wait(new Int32Array(new SharedArrayBuffer(4)), 0, 0, milliseconds);
 }
 
 /**
@@ -120,6 +130,28 @@ function read(path, limit, noted) {
   }
 }
 
+/**
+ * A file that grows is followed; a pipe ends when it is closed.
+ * @type {Io['pieces']}
+ */
+function* pieces(path, follow) {
+  const name = path === '-' ? 'standard input' : path;
+  const file = path === '-' ? INPUT : orTrouble(name, () => openSync(path, 'r'));
+  try {
+    const grows = follow && fstatSync(file).isFile();
+    for (let length = 0; ;) {
+      const count = orTrouble(name, () => patiently(() => readSync(file, ROOM)));
+      length += count;
+      if (count === 0 && !grows) return;
+      if (count === 0 && fstatSync(file).size < length) throw new Trouble(`${name}: it has become shorter while it was followed`);
+      yield ROOM.subarray(0, count);
+      if (count === 0) pause(FOLLOWED_EVERY);
+    }
+  } finally {
+    if (file !== INPUT) closeSync(file);
+  }
+}
+
 /** @param {string} path */
 function keep(path) {
   const file = openSync(path, 'r');
@@ -166,6 +198,7 @@ function convert(tool, args, input) {
 /** @type {Io} */
 export const realIo = {
   read: (path, limit, noted) => orTrouble(path === '-' ? 'standard input' : path, () => read(path, limit, noted)),
+  pieces,
   keep: (path) => orTrouble(path, () => keep(path)),
   isOutput,
   list: (folder) => orTrouble(folder, () => list(folder)),

@@ -4,6 +4,7 @@ import { FORMS, decodeTable, formOf } from '../fields.js';
 import { listed, plainNames } from '../names.js';
 import { FORM_WORDS, TEXT_MAX, isText, readText, showMistakes } from '../notation.js';
 import { noText } from './looks.js';
+import { beginningOf, gathered, withHead } from './pieces.js';
 import { Trouble } from './trouble.js';
 
 /** @typedef {import('../types.js').Form} Form */
@@ -50,10 +51,31 @@ export class Sources {
    * @param {string} file @param {boolean} [brief]  what is read is used before the next reading only
    */
   read(file, brief = false) {
-    if (file === '-' && this.inputRead) throw new Trouble('the standard input can be read once only');
-    if (file === '-') this.inputRead = true;
+    this.#readOnce(file);
     const data = this.io.read(file, LIMIT, this.noted);
     return brief ? data : new Uint8Array(data);
+  }
+
+  /** @param {string} file */
+  #readOnce(file) {
+    if (file === '-' && this.inputRead) throw new Trouble('the standard input can be read once only');
+    if (file === '-') this.inputRead = true;
+  }
+
+  /**
+   * A journal piece by piece; one in a text as a whole.
+   * @param {string} file @param {TableSource} table @param {boolean} follow
+   * @returns {{source: Source, pieces: Iterable<Uint8Array>}}
+   */
+  stream(file, table, follow) {
+    this.#readOnce(file);
+    const pieces = this.io.pieces(file, follow)[Symbol.iterator]();
+    const head = beginningOf(pieces);
+    if (!isText(head)) return { source: bytesSource(file, head, 'journal'), pieces: withHead(head, pieces) };
+    if (follow) throw new Trouble(`${shownFile(file)}: this is a text, and only bytes can be followed`);
+    const text = this.text(file, gathered(head, pieces, (all) => all.length < LIMIT), namesFor(table));
+    const [source] = partsOf(file, text, ['journal'], null);
+    return { source, pieces: [source.bytes] };
   }
 
   /**

@@ -94,6 +94,7 @@ function mistaken(trace, { record, before }, mind, rules) {
  * @param {Trace} trace @param {Step} step  the refused one
  */
 function explaining(trace, step) {
+  if (trace.from !== undefined) return []; // the journal is not there as a whole
   const all = trace.steps.map(({ record }) => record);
   // Bytes at the end, as a torn journal has them, are no record.
   const records = all[all.length - 1].kind === 'bytes' ? all.slice(0, -1) : all;

@@ -3,7 +3,7 @@
 import { FORMS, kindOf, numberAt, valueLength } from '../fields.js';
 import { counted, numbered, quoted, say } from '../names.js';
 import { FORM_WORDS } from '../notation/records.js';
-import { ownValue } from '../trace.js';
+import { bytesFrom, ownValue } from '../trace.js';
 import { explainDifferent } from './difference.js';
 import { explainTorn } from './torn.js';
 
@@ -73,9 +73,10 @@ function otherForm(form, tag, length) {
  * @returns {Said}
  */
 function explainUnknown({ trace, record }) {
-  const { form, journal } = trace;
-  const tag = journal[record.place];
-  const length = numberAt(journal, record.place + 1, 2);
+  const { form } = trace;
+  const bytes = bytesFrom(trace, record);
+  const [tag] = bytes;
+  const length = numberAt(bytes, 1, 2);
   const kind = kindOf(form, tag);
   const hex = tag.toString(16).padStart(2, '0');
   const what = kind === 'input' ? 'the opening' : kind === 'end' ? 'the end' : say`a ${kind ?? ''}`;
@@ -94,8 +95,8 @@ function explainOutOfPlace({ trace, step, record }) {
   const word = formWord(trace);
   if (step.number === 0) return { sentences: [say`A ${word} opens with the input at time 0; this one begins with ${called(record)}.`] };
   if (trace.steps[step.number - 1].record.kind === 'end') {
-    const more = trace.journal.length - record.place;
-    const follow = say`${counted(more, 'byte')} ${more === 1 ? 'follows' : 'follow'}`;
+    const more = bytesFrom(trace, record).length;
+    const follow = trace.from === undefined ? say`${counted(more, 'byte')} ${more === 1 ? 'follows' : 'follow'}` : 'more follows';
     return { sentences: [say`The ${word} ends before byte ${record.place}, but ${follow}.`] };
   }
   return { sentences: [say`A second opening stands at byte ${record.place}.`,

@@ -3,7 +3,7 @@
 import { FORMS, recordBytes } from '../fields.js';
 import { counted, say } from '../names.js';
 import { FORM_WORDS, recordLine } from '../notation/records.js';
-import { accepted } from '../trace.js';
+import { accepted, bytesFrom } from '../trace.js';
 
 /** @typedef {import('../types.js').Trace} Trace */
 /** @typedef {import('./difference.js').Case} Case */
@@ -15,12 +15,12 @@ import { accepted } from '../trace.js';
  */
 function sayTorn({ trace, record }) {
   const word = FORM_WORDS[trace.form];
-  const left = trace.journal.length - record.place;
+  const left = bytesFrom(trace, record).length;
   if (left > 0) {
     const there = say`${counted(left, 'byte')} ${left === 1 ? 'is' : 'are'} there`;
     return say`The ${word} stops in the middle of a field: of the one that starts at byte ${record.place}, ${there}.`;
   }
-  return trace.journal.length === 0 ? say`The ${word} is empty.` : say`The ${word} stops after byte ${record.place - 1} without an end field.`;
+  return record.place === 0 ? say`The ${word} is empty.` : say`The ${word} stops after byte ${record.place - 1} without an end field.`;
 }
 
 /**
@@ -29,11 +29,12 @@ function sayTorn({ trace, record }) {
  * @returns {string[]}
  */
 function sayEnd(trace) {
-  const { form, journal, names } = trace;
+  const { form, journal, names, from = 0 } = trace;
+  const length = from + journal.length;
   const { record } = accepted(trace)[accepted(trace).length - 1];
   const written = form === 'short' ? 0 : record.written ?? 0;
-  const fits = journal.length + recordBytes(form, 'end', written, 0).length <= FORMS[form].max;
-  const whole = record.place + record.length === journal.length;
+  const fits = length + recordBytes(form, 'end', written, 0).length <= FORMS[form].max;
+  const whole = record.place + record.length === length;
   return fits && whole ? [`In a text the line '${recordLine({ ...record, kind: 'end', written, value: null }, names)}' ends it.`] : [];
 }
 

@@ -11,6 +11,16 @@ export const KIT = fileURLToPath(new URL('..', import.meta.url));
 
 const bytesOf = (data) => (typeof data === 'string' ? Buffer.from(data) : data);
 
+/** Bytes in pieces, each of which is overwritten when the next is asked for. */
+function* inPieces(bytes, length, follow) {
+  for (let at = 0; at < bytes.length; at += length) {
+    const piece = Uint8Array.from(bytes.subarray(at, at + length));
+    yield piece;
+    piece.fill(0xee);
+  }
+  if (follow) yield new Uint8Array();
+}
+
 /**
  * Runs the command in a world with these files; `-` is the standard input.
  * @returns {Promise<{code: number, out: string, err: string, files: Record<string, Uint8Array|string>, lines: any[]}>}
@@ -23,6 +33,7 @@ export async function ask(args, files = {}, world = {}) {
       if (!Object.hasOwn(written, path)) throw new Trouble(`${path}: no such file`);
       return bytesOf(written[path]).subarray(0, limit);
     },
+    pieces: (path, follow) => inPieces(io.read(path, Infinity), world.pieceLength ?? 1000, follow),
     keep() {},
     isOutput: (path) => path === '-',
     list: () => [],
