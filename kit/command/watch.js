@@ -5,6 +5,7 @@ import { Watching } from '../watching.js';
 import { ACCEPTED, REFUSED } from './asking.js';
 import { tableRefused } from './check.js';
 import { tell, toldTrace } from './refusals.js';
+import { Trouble } from './trouble.js';
 
 /** @typedef {import('../types.js').Acceptance} Acceptance */
 /** @typedef {import('../types.js').Trace} Trace */
@@ -33,9 +34,19 @@ function takeAll(watching, pieces) {
  */
 function journalOf(asking, table) {
   const [, file] = asking.files;
-  if (file !== undefined) return asking.sources.stream(file, table, asking.options.follow === true);
+  const follow = asking.options.follow === true;
+  if (file !== undefined) return asking.sources.stream(file, table, follow);
+  if (follow) throw new Trouble("--follow needs the journal's own file, behind that of the table");
   const source = asking.one(table, ['journal']);
   return { source, pieces: [source.bytes] };
+}
+
+/**
+ * What is known of the beginning, by which files of another kind are told: the first piece, or a longer first field.
+ * @param {Source} source @param {Trace} refused
+ */
+function beginningOf({ bytes }, { journal, from }) {
+  return from === 0 && journal.length > bytes.length ? journal : bytes;
 }
 
 /**
@@ -49,7 +60,7 @@ export function watch(asking) {
   const watching = new Watching(asking.library, { table: table.bytes, names: table.names });
   const refused = takeAll(watching, pieces);
   if (refused) {
-    tell(asking, toldTrace(refused, source));
+    tell(asking, toldTrace(refused, { ...source, bytes: beginningOf(source, refused) }));
     return REFUSED;
   }
   const numbers = /** @type {Acceptance} */ (watching.numbers);

@@ -42,9 +42,9 @@ function changed(journal, place, value) {
   return copy;
 }
 
-/** What an answer has besides the slip, which only `check` looks for. */
+/** What an answer has besides the slip, which only `check` looks for, and the guess of what else a file is, which has only its beginning. */
 function withoutSlip({ says, slip, either, ...answer }) {
-  const sentences = says?.filter((each) => !/^The usual slip|^These records are what any/.test(each));
+  const sentences = says?.filter((each) => !/^The usual slip|^These records are what any|^The file looks like/.test(each));
   return says ? { ...answer, says: sentences } : answer;
 }
 
@@ -52,7 +52,7 @@ test('on every journal of the examples the answer is that of check', async () =>
   let compared = 0;
   const same = async (args, files) => {
     const [watched, checked] = [await ask(['watch', ...args, '--json'], files), await ask(['check', ...args, '--as', 'journal', '--json'], files)];
-    assert.deepEqual([watched.code, watched.lines], [checked.code, checked.lines.map(withoutSlip)], args.join(' '));
+    assert.deepEqual([watched.code, watched.lines.map(withoutSlip)], [checked.code, checked.lines.map(withoutSlip)], args.join(' '));
     const plain = [await ask(['watch', ...args, '--plain'], files), await ask(['check', ...args, '--as', 'journal', '--plain'], files)];
     assert.equal(plain[0].out, plain[1].out);
     compared++;
@@ -84,7 +84,8 @@ test('a journal longer than a check takes is accepted, in pieces of any length, 
 const FAR = testAt(6000);
 const WRONG = [
   ['a verdict', changed(LONG, FAR, 0), 28, FAR, /The test at 12,002 says held, but state 'idle' has no hold/],
-  ['a polled input', changed(LONG, FAR - 8, 1), 28, FAR - 8, /The poll at 12,001 says that it saw 'train', but from the beginning on the input is 'no_train'/],
+  ['a polled input', changed(LONG, FAR - 8, 1), 28, FAR - 8,
+    /The poll at 12,001 says that it saw 'train', but from the beginning on the input is 'no_train'/],
   ['a state', changed(LONG, FAR + 8, 1), 28, FAR + 8, /from 'idle' the polled input 'no_train' leads to 'idle'/],
   ['an input', changed(LONG, FAR - 8, 7), 23, FAR - 8, /The poll at 12,001 names input 7/],
   ['a record is missing', Buffer.concat([LONG.subarray(0, FAR), LONG.subarray(FAR + 8)]), 26, FAR, /The tick at 12,002 comes out of turn/],
@@ -109,27 +110,52 @@ test(`what is wrong is said with its place in all bytes: ${WRONG.length} journal
   }
 });
 
-test('damaged journals: 1,500 of them have the answer of the check of the whole', async () => {
+/** Journals whose sentences name what was long before the refused record. */
+const LOOKING_BACK = [
+  ['the poll', 'input train; 1 poll train; 2 change no_train; 2 test free; 3 tick idle; 3 end', /it came at 2, and the poll was at 1\. What/],
+  ['the input before', 'input train; 1 change no_train; 2 change no_train; 3 poll train; 3 end', /Input 'train' was over at 1: what/],
+  ['the tick', 'input train; 1 poll train; 1 test free; 2 tick busy; 3 poll train; 4 change train', /ended with the tick at 2\./],
+];
+
+test('sentences that look back are those of check', async () => {
+  const [head] = sample('classroom').split('\nkrossvil ');
+  for (const [what, lines, says] of LOOKING_BACK) {
+    const { parts: [, { bytes }] } = readText(`${head}\nkrossvil journal\n${lines.replaceAll('; ', '\n')}\n`);
+    const files = { ...SAMPLES, j: bytes };
+    const watched = await ask(['watch', 'classroom.kv', 'j', '--json'], files, { pieceLength: 5 });
+    const checked = await ask(['check', 'classroom.kv', 'j', '--json'], files);
+    assert.deepEqual(watched.lines, checked.lines.map(withoutSlip));
+    assert.match(watched.lines[0].says.join(' '), says, what);
+  }
+});
+
+test('damaged journals: 1,500 of them have the answer of the check of the whole, and its sentences', async () => {
   const chance = new Chance(17);
   const numbers = new Set();
   for (let k = 0; k < 1500; k++) {
-    const table = chance.percent(30) ? encodeTable(drawTable(chance, chance.percent(50) ? 'holds' : 'timers')) : TABLE;
-    const journal = perhapsDamaged(chance, chance.percent(80) ? JOURNAL : LONG.subarray(0, 4 + 8 * chance.below(40)));
-    const { lines: [told] } = await ask(['watch', 't', 'j', '--json'], { t: table, j: journal }, { pieceLength: 1 + chance.below(40) });
-    const { ok, ...answer } = library.checkJournal(table, journal);
-    const { file, answer: word, says, meaning, wanted, ...own } = told;
-    assert.deepEqual([own, word], [answer, ok ? 'accepted' : 'refused']);
-    numbers.add(answer.number ?? 0);
+    const t = chance.percent(30) ? encodeTable(drawTable(chance, chance.percent(50) ? 'holds' : 'timers')) : TABLE;
+    const j = perhapsDamaged(chance, chance.percent(80) ? JOURNAL : LONG.subarray(0, 4 + 8 * chance.below(40)));
+    const { lines: [watched] } = await ask(['watch', 't', 'j', '--json'], { t, j }, { pieceLength: 1 + chance.below(40) });
+    const { lines: [checked] } = await ask(['check', 't', 'j', '--as', 'journal', '--json'], { t, j });
+    const counted = JSON.stringify(withoutSlip(checked)).replace(/but [0-9]+ bytes? follows?\./, 'but more follows.');
+    assert.deepEqual(withoutSlip(watched), JSON.parse(counted));
+    numbers.add(watched.number ?? 0);
   }
   assert.ok([0, 20, 21, 22, 23, 24, 26, 28].every((number) => numbers.has(number)), [...numbers].join(' '));
 });
 
 test('texts, and what cannot be asked', async () => {
-  const files = { ...SAMPLES, 'table.bin': TABLE, 'journal.bin': JOURNAL, empty: new Uint8Array() };
+  const files = { ...SAMPLES, 'table.bin': TABLE, 'journal.bin': JOURNAL, empty: new Uint8Array(),
+    mixed: Buffer.concat([Buffer.from('words, and behind them none: '), Buffer.alloc(31)]),
+    'picture.png': Buffer.from('\x89PNG\r\n\x1a\n\0\0\0\rIHDR', 'latin1') };
   const cases = [
     [['watch', 'table.bin', 'classroom.kv'], 0, /^accepted end=12/], [['watch', 'table.bin', '-'], 0, /^accepted end=12/],
-    [['watch', 'table.bin', 'empty'], 1, /^refused 20 at 0\n {2}The journal is empty/], [['watch', 'old-table.kv', 'journal.bin'], 1, /^refused 11 at 40/],
+    [['watch', 'table.bin', 'empty'], 1, /^refused 20 at 0\n {2}The journal is empty/],
+    [['watch', 'old-table.kv', 'journal.bin'], 1, /^refused 11 at 40/],
     [['watch', 'table.bin', 'classroom.kv', '--follow'], 2, /this is a text, and only bytes can be followed/],
+    [['watch', 'table.bin', 'picture.png'], 1, /The file looks like a PNG picture/],
+    [['watch', 'table.bin', 'mixed'], 1, /^refused 20 at 0\n.* 60 bytes are there\.\n$/],
+    [['watch', 'classroom.kv', '--follow'], 2, /--follow needs the journal's own file/],
     [['watch', '-', '-'], 2, /the standard input can be read once only/], [['watch', 'table.bin', 'none.bin'], 2, /none\.bin: no such file/],
     [['watch', 'table.bin'], 2, /these are bytes; name a journal too/], [['watch', 'short-journal.kv'], 2, /there is no journal in this text/],
   ];
