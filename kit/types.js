@@ -155,6 +155,9 @@
  *   machineAfter(table: Table, machine: Machine|null, record: Record): Machine   after a record that was accepted
  * watching.js exports
  *   class Watching: a journal of any length; take(piece) and finish() give the trace of the refusal, or null
+ *
+ * live.js exports
+ *   class Live: a run made event by event; take(kind, time, value) and claim(..) give what is refused with all before it, or null
  *   clocks(table: Table, machine: Machine): Clock[] what can hold a test in the machine's state
  *   holding(table: Table, machine: Machine, time: number): Clock[]   those that hold a test of the polled input at that time
  *   freeFrom(table: Table, machine: Machine, time: number): number   the first time from then on at which none of them holds

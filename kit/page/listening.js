@@ -4,6 +4,7 @@ import { copyLink, showLink } from './address.js';
 import { byId, closeMenu } from './dom.js';
 import { redraw, showOther } from './drawing.js';
 import { tooLong } from './limits.js';
+import { listenToLive } from './live-controls.js';
 import { openExample, openFiles } from './opening.js';
 import { listSavings } from './saving.js';
 import { move, select, selectTime } from './stepping.js';
@@ -21,6 +22,7 @@ export function listen(page) {
   listenToDiagram(page);
   listenToDrops(page);
   listenToPastes(page);
+  listenToLive(page.live);
 }
 
 /** @param {Page} page */

@@ -8,6 +8,7 @@ import { draw, drawWay } from './drawing.js';
 import { Editor } from './editor.js';
 import { Held } from './held.js';
 import { tooLong } from './limits.js';
+import { LivePanel } from './live.js';
 import { saidAt } from './machine.js';
 import { markTexts, showBadges, showFoot } from './marks.js';
 import { ReactionPanel } from './reaction.js';
@@ -60,6 +61,7 @@ export class Page {
     this.editors = /** @type {Record<Pane, Editor>} */ (Object.fromEntries(PANES.map((pane) => [pane, this.#editor(pane)])));
     this.rooms = new Rooms();
     this.together = new Together(this);
+    this.live = new LivePanel(this);
     /** Files and links are opened one after the other. @type {Promise<void>} */
     this.opening = Promise.resolve();
     this.reaction = new ReactionPanel(library, {
@@ -118,12 +120,17 @@ export class Page {
    * @param {Texts} texts @param {Pane} pane @param {string} [title]
    */
   replace(texts, pane, title = changed(this.title)) {
+    this.remember();
+    this.put(texts, pane, title);
+  }
+
+  /** The texts that are there can be brought back. */
+  remember() {
     this.undo = [...this.undo, { texts: this.texts, title: this.title }].slice(-UNDO_MOST);
-    this.#put(texts, pane, title);
   }
 
   /** @param {Texts} texts @param {Pane} pane @param {string} title */
-  #put(texts, pane, title) {
+  put(texts, pane, title) {
     this.later('link', LINK_LATER, () => carry(this));
     this.title = title;
     byId('undo').hidden = this.undo.length === 0;
@@ -146,7 +153,7 @@ export class Page {
 
   takeBack() {
     const before = this.undo.pop();
-    if (before) this.#put(before.texts, this.pane, before.title);
+    if (before) this.put(before.texts, this.pane, before.title);
   }
 
   /** @param {Pane} pane */
@@ -192,6 +199,7 @@ export class Page {
     showFoot(this);
     markTexts(this);
     this.together.follow(texts);
+    this.live.follow(texts);
     this.waiting.set('frame', requestAnimationFrame(() => draw(this)));
   }
 

@@ -3,9 +3,9 @@
 import { byId, closeMenu, empty, fill, make } from './dom.js';
 
 const SHOWS_ANSWERS = ['diagram', 'machine', 'automaton', 'where', 'step-short', 'spoken', 'tools', 'tool-answer', 'reaction-answer',
-  'reaction-picture', 'pane-says', 'save-list', 'together-list', 'paper'];
+  'reaction-picture', 'pane-says', 'live-time', 'live-says', 'save-list', 'together-list', 'paper'];
 const PICTURES = '#pictures, #automaton-beside, #automaton-below, #reaction-panel, #stepping';
-const OTHERS = '#tools-panel, #together, #run';
+const OTHERS = '#tools-panel, #together, #live-panel, #run';
 
 /** @param {string} rooms */
 function hide(rooms) {

@@ -12,8 +12,9 @@ function drive() {
   const TABLE = [1, 0, 4, 1, 1, 1, 0, 2, 0, 4, 0, 0, 0, 3, 3, 0, 1, 0, 4, 0, 1, 0, 5, 0, 4, 0, 0, 0, 0, 6, 0, 4, 0, 0, 0, 0];
   const FILES = [['t', TABLE], ['a', [16, 0, 1, 0]], ['b', [16, 0, 1, 0, 31, 0, 4, 0, 0, 0, 0]], ['c', [137, 80, 78, 71]], ['d', [32, 0, 1, 0]]];
   const TEXT = 'krossvil journal\ninput 0\n';
-  const ANSWERS = '#machine, #where, #step-short, #reaction-answer, #tool-answer, #together-list, #pane-says, #save-list, #tools, .number';
-  const ROOMS = '#pictures, .slot, .stepping, #tools-panel, #reaction-panel, #together, #run';
+  const ANSWERS = '#live-time, #live-says, #machine, #where, #step-short, #reaction-answer, #tool-answer, #together-list, #pane-says, #save-list, '
+    + '#tools, .number';
+  const ROOMS = '#pictures, .slot, .stepping, #tools-panel, #reaction-panel, #together, #live-panel, #run';
 
   const id = (name) => document.getElementById(name);
   const all = (selector) => [...document.querySelectorAll(selector)];
@@ -31,6 +32,7 @@ function drive() {
     id('examples').value = name;
     id('examples').dispatchEvent(new Event('change'));
   };
+  const liveInput = () => document.querySelector('#live-inputs button').click();
   const journal = document.querySelector('#pane-journal textarea');
   const type = (text) => {
     journal.value += text;
@@ -61,6 +63,15 @@ function drive() {
     stamped: async () => { example('stamped-journal'); await pressSoon('#tool-unstamp'); },
     convert: async () => { example('old-table'); await pressSoon('#tool-convert'); },
     save: async () => { id('save').open = true; await pressSoon('#save-list button'); for (const each of all('#save-list button')) each.click(); },
+    live: () => id('live').click(),
+    liveBegin: () => liveInput(),
+    liveWait: () => { liveInput(); id('live-wait').click(); },
+    liveEvent: () => { liveInput(); id('live-poll').click(); },
+    liveHand: () => { liveInput(); id('live-hand').click(); },
+    liveClaim: () => { liveInput(); document.querySelector('#live-verdicts button').click(); },
+    liveClock: async () => { liveInput(); id('live-clock').dispatchEvent(new Event('pointerdown')); await settle();
+      id('live-clock').dispatchEvent(new Event('pointerup')); },
+    liveNew: () => { liveInput(); id('live-new').click(); },
     link: () => id('link').click(),
     dark: () => id('dark').click(),
     print: () => window.dispatchEvent(new Event('beforeprint')),

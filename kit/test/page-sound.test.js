@@ -15,7 +15,7 @@ const BELIEVED = ['page/dom.js byId', 'page/dom.js empty', 'page/page.js unanswe
   'page/net.js sayFault', 'page/editor.js value', 'page/editor.js bare'];
 
 test('a fault in any function of the page leaves nothing of an answer', async (t) => {
-  const { folder, href } = faultyPage(/^(page\/\S+|library|notation|trace|answers|explain|diagram|automaton)\.js$/);
+  const { folder, href } = faultyPage(/^(page\/\S+|library|live|notation|trace|answers|explain|diagram|automaton)\.js$/);
   t.after(() => rmSync(folder, { recursive: true }));
   const tab = await open(t, 'example=changed-verdict', {}, href);
   await tab.value(DRIVER);
