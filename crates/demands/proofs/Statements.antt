@@ -2,7 +2,7 @@
 use Rattle.records.specs.Form.{journal, stimulus}
 use Rattle.live.proofs.AsWhole.{live-is-whole}
 use Rattle.live.proofs.Counts.{numbers-at-the-end}
-use Rattle.live.proofs.Agree.{check-takes-what-is-made}
+use Rattle.live.proofs.Agree.{check-takes-what-is-made, runtime-makes-what-is-taken, no-other-record}
 use Rattle.live.proofs.AnyLength.{however-long, comes-back}
 use Rattle.runs.proofs.Automaton.{machine-is-automaton}
 use Rattle.tight.proofs.Below.{never-above}
@@ -55,6 +55,8 @@ the-demands = (
     as-check = live-is-whole journal;
     same-numbers = numbers-at-the-end;
     agree = check-takes-what-is-made;
+    makes-taken = runtime-makes-what-is-taken;
+    no-other = no-other-record;
     any-length = however-long stimulus;
     comes-back = comes-back stimulus;
   },

@@ -1,7 +1,7 @@
 -- The demands of docs/RULES.md, "The demands", sentence by sentence: each statement by its name, and what it says. proofs/Statements proves all.
 use Rattle.records.specs.Form.{journal, stimulus, short}
 use Rattle.live.specs.Whole.{LiveIsWhole}
-use Rattle.live.specs.Agreeing.{NumbersAtTheEnd, CheckTakesWhatIsMade, AnyLength, LiveComesBack}
+use Rattle.live.specs.Agreeing.{NumbersAtTheEnd, CheckTakesWhatIsMade, RuntimeMakesWhatIsTaken, NoOtherRecord, AnyLength, LiveComesBack}
 use Rattle.runs.specs.Automaton.{MachineIsAutomaton}
 use Rattle.tight.specs.Below.{NeverAbove}
 use Rattle.laws.specs.Tables.{PassesExactly, HoldsThatTable}
@@ -83,6 +83,9 @@ pub record OneAtATime : Type 0 where
   pub same-numbers : NumbersAtTheEnd
   -- What the live runtime makes, the live check takes, and both keep the same.
   pub agree : CheckTakesWhatIsMade
+  -- What the live check takes, the live runtime makes: for one event there is one record, and no other.
+  pub makes-taken : RuntimeMakesWhatIsTaken
+  pub no-other : NoOtherRecord
   -- However many events were taken: their records are a run of the machine, which is the automaton's.
   pub any-length : AnyLength stimulus
   -- A run goes on from a memory that was kept as if nothing had happened.

@@ -8,5 +8,7 @@ pub mod Keeping
 pub mod Slices
 pub mod AsWhole
 pub mod Counts
+pub mod Kept
+pub mod Again
 pub mod Agree
 pub mod AnyLength
