@@ -14,7 +14,9 @@ use Rattle.wire.specs.Field.{byteAt, number16At, number32At, fieldAt}
 use Rattle.wire.specs.declared.Field.{Field}
 use Rattle.wire.specs.declared.Field.the-variants.{Whole, RunOut}
 use Rattle.wire.proofs.Choice.{never, both}
+use Rattle.wire.specs.Standing.{standsAt}
 use Rattle.wire.proofs.Laws.{WholeAt, whole-at, whole-is}
+use Rattle.wire.proofs.Standing.{stands-at, stands-true}
 use Rattle.wire.proofs.Field as FieldT
 use Rattle.table.specs.declared.Answer.{Answer}
 use Rattle.table.specs.declared.Answer.the-variants.{Passes, RunsOut, WrongTagOrLength, HoldTooLong, UnknownInputDelayed, IdleSet}
@@ -39,10 +41,30 @@ module _ (s : List ℕ) (at tag size : ℕ) (f : Field) (is : f ≡ fieldAt s at
       go (Whole found claimed) h = absurd (miss (1 ∷ []) 0 tt h)
       go RunOut h = refl
 
-  pub is-whole : (found claimed : ℕ) → f ≡ Whole found claimed → (r : Answer) →
-      r ≡ ((found =? tag) && (claimed =? size) or-else WrongTagOrLength at) → r ≡ fieldAnswer s at tag size
-  unfolding fieldAnswer expectedField
-  is-whole found claimed whole r e = rw (← is, whole) e
+  pub another-field : standsAt size tag tag s at ≡ false → OneOf (0 ∷ []) (tagOf FieldT.the-type f) → WrongTagOrLength at ≡ fieldAnswer s at tag size
+  unfolding fieldAnswer expectedField _or-else_
+  another-field e h = rw (← is) (go f is h)
+    where
+      decided : (found claimed : ℕ) → Whole found claimed ≡ fieldAt s at → (b : Bool) → ((found =? tag) && (claimed =? size)) ≡ b →
+          WrongTagOrLength at ≡ (b or-else WrongTagOrLength at)
+      decided found claimed there false same = refl
+      decided found claimed there true same =
+          let b = both (found =? tag) (claimed =? size) same in
+          let t = eqb-true found tag (b .0) in
+          let w : WholeAt s at found size = whole-at s at found size (rw (← eqb-true claimed size (b .1)) (sym there)) in
+          never (sym e ∙ stands-true size tag tag s at found w (omega arith) (omega arith))
+
+      go : (g : Field) → g ≡ fieldAt s at → OneOf (0 ∷ []) (tagOf FieldT.the-type g) → WrongTagOrLength at ≡ expectedField g at tag size
+      go (Whole found claimed) there h = decided found claimed there _ refl
+      go RunOut there h = absurd (miss (0 ∷ []) 1 tt h)
+
+pub stands-as-expected : (s : List ℕ) (at tag size : ℕ) → standsAt size tag tag s at ≡ true → Passes ≡ fieldAnswer s at tag size
+unfolding fieldAnswer expectedField _or-else_
+stands-as-expected s at tag size e =
+    let f = stands-at size tag tag s at e in
+    let is : byteAt s at ≡ tag = omega (arith, f .lowest, f .highest) in
+    let whole : WholeAt s at tag size = rw is at (f .whole) in
+    rw (← whole-is s at tag size whole) (sym (simp (eq-eqb tag tag refl, eq-eqb size size refl)))
 
 pub field-stands : (s : List ℕ) (at tag size : ℕ) → fieldAnswer s at tag size ≡ Passes → WholeAt s at tag size
 unfolding fieldAnswer expectedField

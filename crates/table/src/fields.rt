@@ -1,6 +1,6 @@
 // One field of a table: whether it stands where it should, and whether its entries are what they may be.
 ghost use mathlib.Core.Path.{_≡_};
-ghost use Prim.Native.Nat.{_+_, _*_, _≤_};
+ghost use Prim.Native.Nat.{_+_, _*_, _<_, _≤_};
 ghost use lib.ListN.{length};
 ghost use Rattle.wire.specs.Field.{number32At};
 ghost use Rattle.table.specs.Check.{fieldAnswer, bytesAnswer, wordsAnswer, setAnswer, setsAnswer, timerAnswer, timersRow};
@@ -10,28 +10,26 @@ use super::LONGEST_HOLD;
 use super::or_else;
 use wire::Field;
 use wire::number32;
+use wire::stands;
 
+// Nearly every field stands as it should; what is wrong is looked for only where one does not.
 pub fn expect_field(s: &[u8], at: usize, tag: u8, size: usize) -> Answer
-    requires { ⌜ at ≤ length (now s) ⌝ }
+    requires { ⌜ (at ≤ length (now s)) × (size < 65536) ⌝ }
     ensures { λ r. ⌜ r ≡ fieldAnswer (now (s .entry)) at tag size ⌝ }
 {
+    if stands(s, at, size, tag, tag) {
+        return Answer::Passes;
+    }
     let field = wire::read_field(s, at);
-    let Field::Whole {
-        tag: found,
-        size: claimed,
-    } = field
-    else {
+    let Field::Whole { .. } = field else {
         return Answer::RunsOut(at);
     };
-    or_else(
-        (found == tag) & (claimed == size),
-        Answer::WrongTagOrLength(at),
-    )
+    Answer::WrongTagOrLength(at)
 }
 
 // A field of n entries of one byte, each below the limit.
 pub fn check_bytes(s: &[u8], at: usize, tag: u8, n: usize, limit: u8) -> Answer
-    requires { ⌜ at ≤ length (now s) ⌝ }
+    requires { ⌜ (at ≤ length (now s)) × (n ≤ 1024) ⌝ }
     ensures { λ r. ⌜ r ≡ bytesAnswer (now (s .entry)) (byteRow at tag n limit) ⌝ }
 {
     let stands = expect_field(s, at, tag, n);
