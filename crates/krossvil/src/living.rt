@@ -27,21 +27,21 @@ pub extern "C" fn krossvil_live(
     ensures kept { λ _. ⌜ now (memory .exit) ≡ liveKeeps (now (table .entry)) (now (memory .entry)) (now (event .entry)) (now (out .entry)) (length (now (answer .entry))) ⌝ }
 {
     let room = room_beside(answer.len(), LIVE_ANSWER, out.len());
-    let done = live::take_event(table, memory, event, &mut out[..room]);
-    let live::Live::Taken {
-        size,
-        state,
-        output,
-        phase,
-        left,
-        deadline,
-    } = done
-    else {
-        return code(done.number(), done.place());
-    };
-    let bytes = size as u32;
-    let numbers = [bytes, state, output, phase, left, deadline];
-    tell(&numbers, answer)
+    match live::take_event(table, memory, event, &mut out[..room]) {
+        live::Live::Taken {
+            size,
+            state,
+            output,
+            phase,
+            left,
+            deadline,
+        } => {
+            let bytes = size as u32;
+            let numbers = [bytes, state, output, phase, left, deadline];
+            tell(&numbers, answer)
+        }
+        live::Live::Not(refusal) => code(refusal.number(), refusal.place()),
+    }
 }
 
 fn tell_watched(done: live::Watched, answer: &mut [u8]) -> u64
@@ -49,11 +49,13 @@ fn tell_watched(done: live::Watched, answer: &mut [u8]) -> u64
     ensures code { λ r. ⌜ r ≡ codeOf (told (live-answer.watchReply done) (length (now (answer .entry)))) ⌝ }
     ensures bytes { λ _. ⌜ now (answer .exit) ≡ answerAfter (told (live-answer.watchReply done) (length (now (answer .entry)))) (now (answer .entry)) ⌝ }
 {
-    let live::Watched::Taken(n) = done else {
-        return code(done.number(), done.place());
-    };
-    let numbers = in_order(n);
-    tell(&numbers, answer)
+    match done {
+        live::Watched::Taken(n) => {
+            let numbers = in_order(n);
+            tell(&numbers, answer)
+        }
+        live::Watched::Not(refusal) => code(refusal.number(), refusal.place()),
+    }
 }
 
 // The memory may change only if the answer is long enough: where it is not, the check only looks.

@@ -64,15 +64,15 @@ pub extern "C" fn krossvil_reaction_tight(
     ensures code { λ r. ⌜ r ≡ codeOf (tightTold (now (table .entry)) states inputs (length (now (answer .entry)))) ⌝ }
     ensures bytes { λ _. ⌜ now (answer .exit) ≡ answerAfter (tightTold (now (table .entry)) states inputs (length (now (answer .entry)))) (now (answer .entry)) ⌝ }
 {
-    let reacted = tight::react(table, states, inputs);
-    let tight::Answer::Reacts {
-        time,
-        target,
-        tight,
-    } = reacted
-    else {
-        return code(reacted.number(), reacted.place());
-    };
-    let numbers = [time, target, tight];
-    tell(&numbers, answer)
+    match tight::react(table, states, inputs) {
+        tight::Answer::Reacts {
+            time,
+            target,
+            tight,
+        } => {
+            let numbers = [time, target, tight];
+            tell(&numbers, answer)
+        }
+        tight::Answer::Refused(refusal) => code(refusal.number(), refusal.place()),
+    }
 }

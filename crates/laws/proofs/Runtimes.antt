@@ -32,7 +32,8 @@ use Rattle.machine.specs.Machine.{start, agrees, after}
 use Rattle.machine.specs.Run.{Runs, ticks, ticksOf, movesFrom, mostLeft}
 use Rattle.machine.specs.Walk.{inTable, RunOverBytes, ran, tooLong, runOver}
 use Rattle.machine.specs.Walk as walk
-use Rattle.machine.proofs.Steps.{step-taken, Fits, fits-after, start-fits}
+use Rattle.machine.specs.Lent.{Underway}
+use Rattle.machine.proofs.Steps.{step-taken, fits-after, start-fits}
 use Rattle.machine.proofs.Walk.{completed-in-range}
 use Rattle.machine.proofs.Over.{went-through}
 use Rattle.journal.specs.Check.{checkUnder, answerOfRun}
@@ -86,11 +87,11 @@ module _ (t : Table) where
 
   -- Records that the machine takes are in range where their events are.
   module _ (good : WellFormed t) where
-    taken-in-range : (m : Machine) → Fits t m → (r : Record) → agrees t m r ≡ true → inTable form.stimulus t (eventFor r) ≡ true → inTable form.journal t r ≡ true
+    taken-in-range : (m : Machine) → Underway t m → (r : Record) → agrees t m r ≡ true → inTable form.stimulus t (eventFor r) ≡ true → inTable form.journal t r ≡ true
     taken-in-range m fits r agreed h =
         sym (ap (inTable form.journal t) (completed-again form.stimulus t m r agreed)) ∙ completed-in-range form.stimulus t m good fits (eventFor r) h
 
-    inner-taken : (last : Machine) (end before before′ : ℕ) (m : Machine) → Fits t m → (rs : List Record) → Runs t m (rs ++ End end ∷ []) last →
+    inner-taken : (last : Machine) (end before before′ : ℕ) (m : Machine) → Underway t m → (rs : List Record) → Runs t m (rs ++ End end ∷ []) last →
         Inner form.stimulus (inTable form.stimulus t) before (map eventFor rs) end → Inner form.journal (inTable form.journal t) before′ rs end
     inner-taken last end before before′ m fits [] runs w = journal-writable before′ (End end) (w .in-range)
     inner-taken last end before before′ m fits (r ∷ rs) (steps, more) (no-end, w, inner) =

@@ -11,9 +11,10 @@ use Rattle.machine.specs.declared.Regions.{Regions}
 use Rattle.machine.specs.declared.Machine.{Machine}
 use Rattle.machine.specs.declared.Step.{Step}
 use Rattle.machine.specs.Verdict.{leftOf, largestOver}
-use Rattle.machine.specs.Machine.{stateWatch, timerWatches, left, stateAfter, regionsAfter, step, Sane}
+use Rattle.machine.specs.Machine.{stateWatch, timerWatches, left, stateAfter, regionsAfter, step}
+use Rattle.machine.specs.Lent.{Sane}
 use Rattle.machine.specs.Lent.{Lent, Usable}
-use Rattle.machine.proofs.Steps.{Fits}
+use Rattle.machine.specs.Lent.{Underway}
 use Rattle.machine.proofs.Watches.{left-by-state, left-by-timers, no-regions, no-holds, timers-fit}
 
 -- A table lends its own numbers and rows.
@@ -33,7 +34,7 @@ lends t good = record {
   no-holds = no-holds good;
 }
 
-pub usable : (t : Table) (m : Machine) → WellFormed t → Fits t m → Usable m (t .inputs) (t .timers) (t .next) (t .hold) (t .timing)
+pub usable : (t : Table) (m : Machine) → WellFormed t → Underway t m → Usable m (t .inputs) (t .timers) (t .next) (t .hold) (t .timing)
 usable t m good fits = record {
   few-inputs = good .inputs .1;
   few-timers = good .timers;

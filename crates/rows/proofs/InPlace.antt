@@ -98,26 +98,20 @@ module _ (s : List ℕ) (e : tableAnswer s ≡ Passes) where
     unfolding tableWith
     delayed-at at is = rw (is, holders) (sym (getD-filled (wordEntry s (delayedField (countsIn s))) (countsIn s .states) 32 (fit .states .1) q h))
 
+  module _ (j : ℕ) (more : j < 2 * tableIn s .timers) where
+    inside : j < 2 * timersIn (countsIn s) s
+    inside = rw (← timers-are) more
+
+    pub timing-room : holdField (countsIn s) + 3 + 4 * j + 4 ≤ length s
+    timing-room = omega (arith, inside, read .timing (omega (arith, inside)))
+
+    pub timing-at : (at : ℕ) → at ≡ holdField (countsIn s) + 3 + 4 * j → number32At s at ≡ getD (tableIn s .timing) j 0
+    unfolding tableWith
+    timing-at at is = rw is (sym (getD-filled (wordEntry s (holdField (countsIn s))) (2 * timersIn (countsIn s) s) 8 (omega (arith, read .few)) j inside))
+
   module _ (k : ℕ) (more : k < tableIn s .timers) where
     few : k < timersIn (countsIn s) s
     few = rw (← timers-are) more
-
-    pub timing-room : holdField (countsIn s) + 3 + 8 * k + 8 ≤ length s
-    timing-room = omega (arith, few, read .timing (omega (arith, few)))
-
-    timing-is : (j : ℕ) → j < 2 * timersIn (countsIn s) s → number32At s (holdField (countsIn s) + 3 + 4 * j) ≡ getD (tableIn s .timing) j 0
-    unfolding tableWith
-    timing-is j h = sym (getD-filled (wordEntry s (holdField (countsIn s))) (2 * timersIn (countsIn s) s) 8 (omega (arith, read .few)) j h)
-
-    pub length-at : (at : ℕ) → at ≡ holdField (countsIn s) + 3 + 8 * k → number32At s at ≡ lengthOf (tableIn s) k
-    length-at at is =
-        let here : at ≡ holdField (countsIn s) + 3 + 4 * (2 * k) = omega arith in
-        rw here (timing-is (2 * k) (omega (arith, few)))
-
-    pub region-at : (at : ℕ) → at ≡ holdField (countsIn s) + 7 + 8 * k → number32At s at ≡ regionOf (tableIn s) k
-    region-at at is =
-        let here : at ≡ holdField (countsIn s) + 3 + 4 * (2 * k + 1) = omega arith in
-        rw here (timing-is (2 * k + 1) (omega (arith, few)))
 
     module _ (q : ℕ) (h : q < countsIn s .states) where
       before : q * timersIn (countsIn s) s + k < countsIn s .states * timersIn (countsIn s) s

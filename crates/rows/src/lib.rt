@@ -1,7 +1,7 @@
 // What one step of the machine asks of a table, read where it stands in bytes that passed: no table is made of them.
 ghost use mathlib.Core.Path.{_≡_};
-ghost use Prim.Native.Nat.{_+_, _<_, _≤_};
-ghost use lib.ListN.{length};
+ghost use Prim.Native.Nat.{_+_, _*_, _<_, _≤_};
+ghost use lib.ListN.{length, getD};
 ghost use Rattle.table.specs.declared.Answer.the-variants.{Passes};
 ghost use Rattle.table.specs.Table.{outputOf, nextOf, holdOf, delayedOf, lengthOf, regionOf, timerSetOf};
 ghost use Rattle.table.specs.Check.{tableAnswer, tableIn, countsIn, holdField};
@@ -87,19 +87,27 @@ pub fn delayed_of(s: &[u8], state: u32) -> u32
     number32(s, fifth_field(s) + 6 + 4 * states + 4 * (state as usize))
 }
 
+// One of the numbers that field 07 has for the timers.
+fn timing_of(s: &[u8], k: usize) -> u32
+    requires { ⌜ (tableAnswer (now s) ≡ Passes) × (k < 2 * tableIn (now s) .timers) ⌝ }
+    ensures { λ r. ⌜ r ≡ getD (tableIn (now (s .entry)) .timing) k 0 ⌝ }
+{
+    number32(s, fifth_field(s) + 3 + 4 * k)
+}
+
 // Of a timer the length, the region, and the inputs that it delays in a state.
 pub fn length_of(s: &[u8], timer: u32) -> u32
     requires { ⌜ (tableAnswer (now s) ≡ Passes) × (timer < tableIn (now s) .timers) ⌝ }
     ensures { λ r. ⌜ r ≡ lengthOf (tableIn (now (s .entry))) timer ⌝ }
 {
-    number32(s, fifth_field(s) + 3 + 8 * (timer as usize))
+    timing_of(s, 2 * (timer as usize))
 }
 
 pub fn region_of(s: &[u8], timer: u32) -> u32
     requires { ⌜ (tableAnswer (now s) ≡ Passes) × (timer < tableIn (now s) .timers) ⌝ }
     ensures { λ r. ⌜ r ≡ regionOf (tableIn (now (s .entry))) timer ⌝ }
 {
-    number32(s, fifth_field(s) + 7 + 8 * (timer as usize))
+    timing_of(s, 2 * (timer as usize) + 1)
 }
 
 pub fn set_of(s: &[u8], timers: u32, timer: u32, state: u32) -> u32

@@ -19,7 +19,8 @@ use Rattle.machine.specs.declared.Machine.{Machine}
 use Rattle.machine.specs.Machine.{after}
 use Rattle.machine.specs.Run.{Runs, stateFrom}
 use Rattle.machine.proofs.Counts.{state-from}
-use Rattle.machine.proofs.Steps.{Fits, fits-after}
+use Rattle.machine.specs.Lent.{Underway}
+use Rattle.machine.proofs.Steps.{fits-after}
 use Rattle.runs.proofs.Records.{not-both}
 use Rattle.tally.specs.declared.Tally.{Tally}
 use Rattle.tally.specs.Tally.{movesInto}
@@ -33,7 +34,7 @@ abbrev pub Within : Table → (q a : ℕ) → List Record → Type 0
 Within t q a [] = Unit
 Within t q a (r ∷ rs) = (q < t .states) × (a < t .inputs) × (stateFrom q r < t .states) × Within t (stateFrom q r) (inputFrom a r) rs
 
-pub within : (t : Table) → WellFormed t → (rs : List Record) (m last : Machine) → Fits t m → InTable t rs → Runs t m rs last →
+pub within : (t : Table) → WellFormed t → (rs : List Record) (m last : Machine) → Underway t m → InTable t rs → Runs t m rs last →
     Within t (m .state) (m .input) rs
 within t good [] m last fits in-table run = tt
 within t good (r ∷ rs) m last fits (here, others) (takes, run) =

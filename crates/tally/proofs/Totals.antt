@@ -19,7 +19,8 @@ use Rattle.records.specs.Record.{timeOf, latest}
 use Rattle.machine.specs.declared.Machine.{Machine}
 use Rattle.machine.specs.Machine.{start, after}
 use Rattle.machine.specs.Run.{Runs, stateFrom, movesFrom}
-use Rattle.machine.proofs.Steps.{Fits, start-fits, fits-after}
+use Rattle.machine.specs.Lent.{Underway}
+use Rattle.machine.proofs.Steps.{start-fits, fits-after}
 use Rattle.runs.specs.Slots.{slot, stateAt, inputAt}
 use Rattle.runs.proofs.Records.{split, not-both}
 use Rattle.runs.proofs.Slots.{slot-before, slot-after}
@@ -75,22 +76,22 @@ few-slots (suc T) passes = omega (arith, few-slots T passes, at-most-one (passes
 -- ---- Every machine of the run fits its table
 
 module _ (t : Table) (good : WellFormed t) where
-  slot-fits : (k : ℕ) (rs : List Record) (m last : Machine) → Fits t m → InTable t rs → Runs t m rs last → Fits t (slot t m rs k)
+  slot-fits : (k : ℕ) (rs : List Record) (m last : Machine) → Underway t m → InTable t rs → Runs t m rs last → Underway t (slot t m rs k)
   slot-fits k [] m last fits in-table run = unfold slot in fits
   slot-fits k (r ∷ rs) m last fits in-table run = ⊎-elim
       (λ now. rw (slot-after t k rs r m now) (slot-fits k rs (after t m r) last (fits-after t m r good fits (in-table .0)) (in-table .1) (run .1)))
       (λ past. rw (slot-before t k rs r m m last run past) fits)
       (split (timeOf r) k)
 
-  last-fits : (rs : List Record) (m last : Machine) → Fits t m → InTable t rs → Runs t m rs last → Fits t last
+  last-fits : (rs : List Record) (m last : Machine) → Underway t m → InTable t rs → Runs t m rs last → Underway t last
   last-fits [] m last fits in-table run = rw (← run) fits
   last-fits (r ∷ rs) m last fits in-table run = last-fits rs (after t m r) last (fits-after t m r good fits (in-table .0)) (in-table .1) (run .1)
 
 module _ (t : Table) (input : ℕ) (rs : List Record) (T : ℕ) (is : AcceptedRecords t input rs T) where
-  fits-first : Fits t (start (t .initial) input)
+  fits-first : Underway t (start (t .initial) input)
   fits-first = start-fits t input (is .well-formed) (is .opens)
 
-  shown-fits : (k : ℕ) → Fits t (slot t (start (t .initial) input) rs k)
+  shown-fits : (k : ℕ) → Underway t (slot t (start (t .initial) input) rs k)
   shown-fits k = slot-fits t (is .well-formed) k rs _ (is .accepted .last) fits-first (is .in-table) (is .accepted .runs)
 
   inside-table : Within t (t .initial) input rs

@@ -1,9 +1,7 @@
 // Tight reaction times: the calculator's answer, and beside it the time that is enough in whole ticks.
 ghost use mathlib.Core.Path.{_≡_};
 ghost use Prim.Native.Nat.{_≤_};
-ghost use Rattle.wire.specs.Reply.{numberIn, placeIn};
 ghost use Rattle.table.specs.Table.{largestBound};
-ghost use Rattle.tight.specs.Answer.{replyOf};
 ghost use Rattle.tight.specs.Tight.{reactTightOf};
 ghost use Rattle.tight.specs.Below.{tightened};
 use wire::number32;
@@ -12,27 +10,6 @@ use wire::number32;
 pub enum Answer {
     Reacts { time: u32, target: u32, tight: u32 },
     Refused(reaction::Answer),
-}
-
-impl Answer {
-    // The refusal's number; 0 where there is none.
-    pub fn number(self) -> u32
-        ensures { λ r. ⌜ r ≡ numberIn (replyOf self) ⌝ }
-    {
-        match self {
-            Answer::Reacts { .. } => 0,
-            Answer::Refused(refusal) => refusal.number(),
-        }
-    }
-
-    pub fn place(self) -> usize
-        ensures { λ r. ⌜ r ≡ placeIn (replyOf self) ⌝ }
-    {
-        match self {
-            Answer::Reacts { .. } => 0,
-            Answer::Refused(refusal) => refusal.place(),
-        }
-    }
 }
 
 // The tight time by the calculator's time, which tells what the largest weight is.

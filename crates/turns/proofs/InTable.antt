@@ -12,21 +12,10 @@ use Rattle.table.specs.Check.{tableAnswer, tableIn}
 use Rattle.table.proofs.WellFormed.{well-formed}
 use Rattle.machine.specs.declared.Machine.{Machine}
 use Rattle.machine.specs.Verdict.{leftOf, largestOver}
-use Rattle.machine.specs.Machine.{watchBy, timerWatch, timerWatches, stateWatch, left, entered, Sane}
-use Rattle.machine.proofs.Steps.{Fits, fits-sane}
+use Rattle.machine.specs.Machine.{watchBy, timerWatch, timerWatches, stateWatch, left, entered}
+use Rattle.machine.specs.Lent.{Sane, Underway}
+use Rattle.machine.proofs.Steps.{fits-sane}
 use Rattle.machine.proofs.Watches.{watch-idle, no-timer, timers-fit, left-by-state, left-by-timers, no-regions, no-holds}
-use Rattle.turns.specs.Turns.{Underway}
-
-pub underway-fits : (t : Table) (m : Machine) → Underway t m → Fits t m
-underway-fits t m u = record {
-  phase = u .phase;
-  input = u .input;
-  polled = u .polled;
-  state = u .state;
-  entry = u .entry;
-  start = u .start;
-  time = u .time;
-}
 
 two-and-two : (a b c d : ℕ) → max (max a b) (max c d) ≡ max a (max b (max c (max d 0)))
 two-and-two a b c d =
@@ -39,7 +28,7 @@ module _ (s : List ℕ) (e : tableAnswer s ≡ Passes) where
   good = well-formed s e
 
   pub sane : (m : Machine) → Underway (tableIn s) m → Sane m
-  sane m u = fits-sane (tableIn s) m good (underway-fits (tableIn s) m u)
+  sane m u = fits-sane (tableIn s) m good u
 
   -- A timer that the table has not got.
   module _ (k : ℕ) (none : tableIn s .timers ≤ k) where
