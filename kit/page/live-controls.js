@@ -84,9 +84,14 @@ export function listenToLive(live) {
  */
 function listenToClock(live) {
   const button = byId('live-clock');
-  button.addEventListener('pointerdown', () => live.go());
-  for (const over of ['pointerup', 'pointerleave', 'pointercancel', 'blur']) button.addEventListener(over, () => live.stop());
-  button.addEventListener('keydown', (/** @type {KeyboardEvent} */ event) => [' ', 'Enter'].includes(event.key) && live.go());
+  button.addEventListener('pointerdown', (/** @type {PointerEvent} */ { pointerId }) => {
+    // Kept, since the button moves when the answer above it grows.
+    if (pointerId !== undefined) button.setPointerCapture(pointerId);
+    live.go();
+  });
+  for (const over of ['pointerup', 'pointercancel', 'blur']) button.addEventListener(over, () => live.stop());
+  button.addEventListener('keydown', (/** @type {KeyboardEvent} */ event) =>
+    [' ', 'Enter'].includes(event.key) && !event.repeat && live.go());
   button.addEventListener('keyup', () => live.stop());
   button.addEventListener('contextmenu', (/** @type {Event} */ event) => event.preventDefault());
 }

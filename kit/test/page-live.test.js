@@ -108,6 +108,22 @@ test('the clock runs while a key or the button is held', async (t) => {
   await mouse('mouseReleased');
 });
 
+test('a held key that repeats does not hurry the clock', async (t) => {
+  const { tab } = await begun(t);
+  const key = (type, more = {}) =>
+    tab.send('Input.dispatchKeyEvent', { type, key: ' ', code: 'Space', windowsVirtualKeyCode: 32, ...more });
+  await tab.value("document.getElementById('live-clock').focus()");
+  const records = async () => (await paneText(tab, 'journal')).split('\n').length;
+  const count = await records();
+  const since = Date.now();
+  await key('keyDown');
+  for (let k = 0; k < 30; k++) await key('keyDown', { autoRepeat: true });
+  const most = 2 + Math.floor((Date.now() - since) / 350);
+  await key('keyUp');
+  const beats = await records() - count;
+  assert.ok(beats >= 1 && beats <= most, `${beats} beats, at most ${most}`);
+});
+
 test('where a cycle is short, the clock does not wait', async (t) => {
   const tab = await open(t, 'example=classroom');
   await setPane(tab, 'table', (await paneText(tab, 'table')).replace('cycle   3', 'cycle   2'));

@@ -25,8 +25,9 @@ use Rattle.records.specs.declared.Read.the-variants as read
 use Rattle.records.specs.declared.Refusal.the-variants.{Misplaced}
 use Rattle.wire.specs.Encode.{field}
 use Rattle.records.specs.Encode.{bytesOf}
-use Rattle.records.specs.Form.{Form, journal, stimulus}
+use Rattle.records.specs.Form.{Form, journal, stimulus, timeLength}
 use Rattle.records.specs.Reading.{sizeOf, openingOf, recordAt}
+use Rattle.records.proofs.Shapes.{said-little}
 use Rattle.machine.specs.Walk.{inTable}
 use Rattle.journal.specs.declared.Progress.{Progress}
 use Rattle.turns.specs.declared.Turned.{Turned}
@@ -69,25 +70,11 @@ alone-says size s j h says = go (size <? length s)
     go true = misplaced size h
     go false = says
 
--- A field of either form has at most eight bytes.
-abbrev Short : Form → Type 0
-Short F = (r : Record) → sizeOf F r ≤ 8
+-- A field of a form with times of four bytes has at most eight.
+short : (F : Form) → timeLength F ≡ 4 → (r : Record) → sizeOf F r ≤ 8
+short F four r = omega (arith, four, said-little F r)
 
-journal-short : Short journal
-journal-short (Change time input) = omega arith
-journal-short (Poll time input) = omega arith
-journal-short (Test time verdict) = omega arith
-journal-short (Tick time state) = omega arith
-journal-short (End time) = omega arith
-
-stimulus-short : Short stimulus
-stimulus-short (Change time input) = omega arith
-stimulus-short (Poll time input) = omega arith
-stimulus-short (Test time verdict) = omega arith
-stimulus-short (Tick time state) = omega arith
-stimulus-short (End time) = omega arith
-
-module _ (F : Form) (few : Short F) where
+module _ (F : Form) (four : timeLength F ≡ 4) where
   opened-says : (s : List ℕ) (o : Opening) → Says (openedBy s o)
   unfolding openedBy
   opened-says s (opening.Refused x) = of-record x 0 (omega arith)
@@ -101,7 +88,7 @@ module _ (F : Form) (few : Short F) where
   record-says : (t : Table) (p : Progress) (s : List ℕ) (x : Read) → Says (recordJudged F t p s x)
   unfolding recordJudged
   record-says t p s (read.Refused x) = of-record x 0 (omega arith)
-  record-says t p s (read.Found r) = alone-says (sizeOf F r) s (wentOn (turnOf F t p r)) (few r) (went-says (turnOf F t p r))
+  record-says t p s (read.Found r) = alone-says (sizeOf F r) s (wentOn (turnOf F t p r)) (short F four r) (went-says (turnOf F t p r))
 
   field-says : (t : Table) (stage : ℕ) (p : Progress) (s : List ℕ) → Says (fieldJudged F t stage p s)
   unfolding fieldJudged
@@ -148,11 +135,11 @@ made-known t (judged.Opens input) s = record {
 }
 made-known t (judged.Goes p r left) s = record {
   tells = record { values = _; count = refl; is = refl; kept = miss (1 ∷ []) 0 tt };
-  shaped = (_, _, _, _, _, _, refl, journal-short r, omega arith);
+  shaped = (_, _, _, _, _, _, refl, short journal refl r, omega arith);
 }
 
 pub known : (table n event : List ℕ) → Known (liveOf table n event)
-known table n event = made-known (tableIn table) (judgedOf stimulus table n event) (says stimulus stimulus-short table n event)
+known table n event = made-known (tableIn table) (judgedOf stimulus table n event) (says stimulus refl table n event)
 
 abbrev pub live-writer : (table n event : List ℕ) → Writer
 live-writer table n event = writer replyOf (live.Not why.NoRoom) refl Left 6 (liveOf table n event) (known table n event .tells)
@@ -225,7 +212,7 @@ live-kept table n event out answer room lent e =
 
 pub watch-says : (table n s : List ℕ) → Refusing (watchOf table n s)
 unfolding watchedBy
-watch-says table n s = go (judgedOf journal table n s) (says journal journal-short table n s)
+watch-says table n s = go (judgedOf journal table n s) (says journal refl table n s)
   where
     go : (j : Judged) → Says j → Refusing (watchedBy (tableIn table) j)
     go (judged.Opens input) h = tt

@@ -1,5 +1,5 @@
 -- What each entry owes the host, whatever the entry.
-use mathlib.Core.Path.{_≡_, refl, ap, _∙_}
+use mathlib.Core.Path.{_≡_, refl, sym, ap, _∙_}
 use mathlib.Core.List.{List, [], _∷_, _++_}
 use Prim.Native.Nat.{ℕ, suc, _+_, _*_, _^_, _<_, _≤_}
 use native.Mathlib.Omega.{arith}
@@ -62,6 +62,14 @@ module _ {A : Type 0} (replyOf : A → Reply) (right a : A) (is : a ≡ right) (
 
   pub refused : valuesIn (replyOf a) ≡ [] → (before : List ℕ) (code : ℕ) → code ≡ numbered n p → Owed (replyOf right) before code before
   refused none before code e = rw (← is) (owed-none (replyOf a) none n p en ep before code e)
+
+-- An answer under a name has the number and the place of what it is.
+module _ {A : Type 0} (replyOf : A → Reply) {a b : A} (is : a ≡ b) where
+  pub number-as : {n : ℕ} → n ≡ numberIn (replyOf b) → n ≡ numberIn (replyOf a)
+  number-as e = e ∙ ap (λ x. numberIn (replyOf x)) (sym is)
+
+  pub place-as : {p : ℕ} → p ≡ placeIn (replyOf b) → p ≡ placeIn (replyOf a)
+  place-as e = e ∙ ap (λ x. placeIn (replyOf x)) (sym is)
 
 -- What a `let .. else` on a success leaves has no numbers.
 pub journal-none : (a : journal′.Answer) → OneOf (1 ∷ 2 ∷ 3 ∷ []) (tagOf JournalT.the-type a) → valuesIn (journal.replyOf a) ≡ []

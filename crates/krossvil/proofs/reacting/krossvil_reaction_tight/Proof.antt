@@ -1,5 +1,5 @@
 -- A refusal touches no buffer; a success is told.
-use Rattle.krossvil.proofs.Outcomes.{fits, refused, owed-same}
+use Rattle.krossvil.proofs.Outcomes.{fits, refused, owed-same, number-as, place-as}
 use Rattle.krossvil.proofs.Tights.{tight-fits, tight-none}
 use Rattle.tight.specs.Answer.{replyOf}
 use mathlib.Core.Path.{sym, ap}
@@ -9,23 +9,27 @@ use Rattle.krossvil.proofs.reacting.krossvil_reaction_tight.Tie as tie
 
 code-requires : tie.Need-code-requires
 code-requires c κs =
-    let reacts = c .before .before .before .before .react .ensures in
-    fits replyOf _ _ reacts _ _ (c .before .number .ensures) (c .place .ensures) (tight-fits _ _ _)
+    let judged = c .before .before .before in
+    let is = judged .refusal .given .1 in
+    fits replyOf _ _ (judged .before .before .react .ensures) _ _ (number-as replyOf is (c .before .number .ensures)) (place-as replyOf is (c .place .ensures)) (tight-fits _ _ _)
 
 returns : tie.Need-returns
 returns c =
-    let entry = c .before .before .before .before .before .react in
-    refused replyOf _ _ (entry .ensures) _ _ (c .before .before .number .ensures) (c .before .place .ensures)
-    (tight-none _ _ _ (entry .result) (entry .ensures) (c .before .before .before .before .match .keys2)) _ _ (c .code .ensures)
+    let judged = c .before .before .before .before .before .before in
+    let entry = judged .before .before in
+    owed-same replyOf _ _ _ (entry .react .ensures) (sym (ap replyOf (judged .time .given .1)))
+    (entry .before .before .before .args .answer .now) _ _ (c .before .before .tell .ensures)
 
 returns-2 : tie.Need-returns-2
 returns-2 c =
-    owed-same replyOf _ _ _ (c .before .before .before .before .before .before .before .before .react .ensures)
-    (sym (ap replyOf (c .before .before .before .before .before .before .reacted .given .1)))
-    (c .before .before .before .before .before .before .before .before .before .before .before .args .answer .now) _ _ (c .before .before .tell .ensures)
+    let judged = c .before .before .before .before in
+    let is = judged .refusal .given .1 in
+    let entry = judged .before .before .react in
+    refused replyOf _ _ (entry .ensures) _ _ (number-as replyOf is (c .before .before .number .ensures)) (place-as replyOf is (c .before .place .ensures))
+    (tight-none _ _ _ (entry .result) (entry .ensures) (judged .before .match .keys2)) _ _ (c .code .ensures)
 
 pub krossvil-reaction-tight-spec : {M : Type 1} → statement M
 krossvil-reaction-tight-spec =
     tie.close
-    (tie.spec (λ c κs. search needs) (λ c. search needs) (λ c. search needs) (λ c κs. search needs) (λ c κs. search needs)
-    code-requires returns (λ c. search needs) (λ c κs. search needs) (λ c. search needs) returns-2)
+    (tie.spec (λ c κs. search needs) (λ c. search needs) (λ c. search needs) (λ c κs. search needs)
+    (λ c. search needs) (λ c κs. search needs) (λ c κs. search needs) code-requires (λ c. search needs) returns returns-2)
