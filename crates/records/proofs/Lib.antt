@@ -10,3 +10,4 @@ pub mod Fields
 pub mod JournalReader
 pub mod StampReader
 pub mod StimulusReader
+pub mod AloneReader
