@@ -10,22 +10,22 @@
 #include "reference.h"
 
 #ifdef SELF
-uint64_t second_check_table(const uint8_t *, size_t);
-uint64_t second_check_journal(const uint8_t *, size_t, const uint8_t *, size_t, uint8_t *, size_t);
-uint64_t second_run(const uint8_t *, size_t, const uint8_t *, size_t, uint8_t *, size_t, uint8_t *, size_t);
-uint64_t second_reaction(const uint8_t *, size_t, uint32_t, uint32_t, uint8_t *, size_t);
-uint64_t second_reaction_moves(const uint8_t *, size_t, uint32_t, uint32_t, uint32_t, uint32_t *, size_t, uint8_t *, size_t, uint8_t *,
-                               size_t);
-uint64_t second_reaction_tight(const uint8_t *, size_t, uint32_t, uint32_t, uint8_t *, size_t);
-uint64_t second_convert_table(const uint8_t *, size_t, uint8_t *, size_t, uint8_t *, size_t);
-uint64_t second_read_stamped(const uint8_t *, size_t, uint8_t *, size_t, uint8_t *, size_t);
-uint64_t second_check_short(const uint8_t *, size_t, const uint8_t *, size_t, uint8_t *, size_t);
-uint64_t second_shorten(const uint8_t *, size_t, const uint8_t *, size_t, uint8_t *, size_t, uint8_t *, size_t);
-uint64_t second_lengthen(const uint8_t *, size_t, const uint8_t *, size_t, uint8_t *, size_t, uint8_t *, size_t);
-uint64_t second_salvage(const uint8_t *, size_t, const uint8_t *, size_t, uint8_t *, size_t, uint8_t *, size_t);
-uint64_t second_report_add(const uint8_t *, size_t, const uint8_t *, size_t, uint64_t *, size_t);
-uint64_t second_live(const uint8_t *, size_t, uint32_t *, size_t, const uint8_t *, size_t, uint8_t *, size_t, uint8_t *, size_t);
-uint64_t second_watch(const uint8_t *, size_t, uint32_t *, size_t, const uint8_t *, size_t, uint8_t *, size_t);
+uint64_t second_check_table(const uint8_t *, uint64_t);
+uint64_t second_check_journal(const uint8_t *, uint64_t, const uint8_t *, uint64_t, uint8_t *, uint64_t);
+uint64_t second_run(const uint8_t *, uint64_t, const uint8_t *, uint64_t, uint8_t *, uint64_t, uint8_t *, uint64_t);
+uint64_t second_reaction(const uint8_t *, uint64_t, uint32_t, uint32_t, uint8_t *, uint64_t);
+uint64_t second_reaction_moves(const uint8_t *, uint64_t, uint32_t, uint32_t, uint32_t, uint32_t *, uint64_t, uint8_t *, uint64_t, uint8_t *,
+                               uint64_t);
+uint64_t second_reaction_tight(const uint8_t *, uint64_t, uint32_t, uint32_t, uint8_t *, uint64_t);
+uint64_t second_convert_table(const uint8_t *, uint64_t, uint8_t *, uint64_t, uint8_t *, uint64_t);
+uint64_t second_read_stamped(const uint8_t *, uint64_t, uint8_t *, uint64_t, uint8_t *, uint64_t);
+uint64_t second_check_short(const uint8_t *, uint64_t, const uint8_t *, uint64_t, uint8_t *, uint64_t);
+uint64_t second_shorten(const uint8_t *, uint64_t, const uint8_t *, uint64_t, uint8_t *, uint64_t, uint8_t *, uint64_t);
+uint64_t second_lengthen(const uint8_t *, uint64_t, const uint8_t *, uint64_t, uint8_t *, uint64_t, uint8_t *, uint64_t);
+uint64_t second_salvage(const uint8_t *, uint64_t, const uint8_t *, uint64_t, uint8_t *, uint64_t, uint8_t *, uint64_t);
+uint64_t second_report_add(const uint8_t *, uint64_t, const uint8_t *, uint64_t, uint64_t *, uint64_t);
+uint64_t second_live(const uint8_t *, uint64_t, uint32_t *, uint64_t, const uint8_t *, uint64_t, uint8_t *, uint64_t, uint8_t *, uint64_t);
+uint64_t second_watch(const uint8_t *, uint64_t, uint32_t *, uint64_t, const uint8_t *, uint64_t, uint8_t *, uint64_t);
 #define krossvil_check_table second_check_table
 #define krossvil_check_journal second_check_journal
 #define krossvil_run second_run
@@ -834,16 +834,16 @@ static const struct {
 };
 
 /* Entries of one shape, the reference's and the library's. */
-static uint64_t (*const checks[ENTRIES][2])(const uint8_t *, size_t, const uint8_t *, size_t, uint8_t *, size_t) = {
+static uint64_t (*const checks[ENTRIES][2])(const uint8_t *, uint64_t, const uint8_t *, uint64_t, uint8_t *, uint64_t) = {
     [CHECK_JOURNAL] = { reference_check_journal, krossvil_check_journal },
     [CHECK_SHORT] = { reference_check_short, krossvil_check_short },
 };
-static uint64_t (*const calculators[ENTRIES][2])(const uint8_t *, size_t, uint32_t, uint32_t, uint8_t *, size_t) = {
+static uint64_t (*const calculators[ENTRIES][2])(const uint8_t *, uint64_t, uint32_t, uint32_t, uint8_t *, uint64_t) = {
     [REACTION] = { reference_reaction, krossvil_reaction },
     [REACTION_TIGHT] = { reference_reaction_tight, krossvil_reaction_tight },
 };
-static uint64_t (*const rewrites[ENTRIES][2])(const uint8_t *, size_t, const uint8_t *, size_t, uint8_t *, size_t, uint8_t *,
-                                              size_t) = {
+static uint64_t (*const rewrites[ENTRIES][2])(const uint8_t *, uint64_t, const uint8_t *, uint64_t, uint8_t *, uint64_t, uint8_t *,
+                                              uint64_t) = {
     [RUN] = { reference_run, krossvil_run },
     [SHORTEN] = { reference_shorten, krossvil_shorten },
     [LENGTHEN] = { reference_lengthen, krossvil_lengthen },

@@ -80,74 +80,74 @@ static size_t make_all(void)
 
 /* ---- Answers: each is long enough, and one byte less is not ---- */
 
-static uint64_t check_journal(size_t len) { return krossvil_check_journal(table, table_len, journal, journal_len, answer, len); }
+static uint64_t check_journal(uint64_t len) { return krossvil_check_journal(table, table_len, journal, journal_len, answer, len); }
 
-static uint64_t run(size_t len)
+static uint64_t run(uint64_t len)
 {
     return krossvil_run(table, table_len, stimulus, sizeof stimulus, written, sizeof written, answer, len);
 }
 
-static uint64_t reaction(size_t len) { return krossvil_reaction(table, table_len, EVERY_STATE, EVERY_INPUT, answer, len); }
+static uint64_t reaction(uint64_t len) { return krossvil_reaction(table, table_len, EVERY_STATE, EVERY_INPUT, answer, len); }
 
-static uint64_t reaction_moves(size_t len)
+static uint64_t reaction_moves(uint64_t len)
 {
     return krossvil_reaction_moves(table, table_len, EVERY_STATE, EVERY_INPUT, 1, sums, KROSSVIL_SUMS_MAX, path, sizeof path, answer, len);
 }
 
-static uint64_t reaction_tight(size_t len) { return krossvil_reaction_tight(table, table_len, EVERY_STATE, EVERY_INPUT, answer, len); }
+static uint64_t reaction_tight(uint64_t len) { return krossvil_reaction_tight(table, table_len, EVERY_STATE, EVERY_INPUT, answer, len); }
 
-static uint64_t convert(size_t len) { return krossvil_convert_table(table, table_len, written, sizeof written, answer, len); }
+static uint64_t convert(uint64_t len) { return krossvil_convert_table(table, table_len, written, sizeof written, answer, len); }
 
-static uint64_t read_stamped(size_t len)
+static uint64_t read_stamped(uint64_t len)
 {
     return krossvil_read_stamped(stamped, sizeof stamped, written, sizeof written, answer, len);
 }
 
-static uint64_t check_short(size_t len)
+static uint64_t check_short(uint64_t len)
 {
     return krossvil_check_short(table, table_len, short_journal, sizeof short_journal, answer, len);
 }
 
-static uint64_t shorten(size_t len)
+static uint64_t shorten(uint64_t len)
 {
     return krossvil_shorten(table, table_len, journal, journal_len, shortened, sizeof shortened, answer, len);
 }
 
-static uint64_t lengthen(size_t len)
+static uint64_t lengthen(uint64_t len)
 {
     return krossvil_lengthen(table, table_len, short_journal, sizeof short_journal, written, sizeof written, answer, len);
 }
 
-static uint64_t salvage(size_t len)
+static uint64_t salvage(uint64_t len)
 {
     return krossvil_salvage(table, table_len, journal, journal_len, salvaged, sizeof salvaged, answer, len);
 }
 
 /* A run of its own for each call, so many numbers of memory, and the first event of it or, with the memory of a run that is under way, a
  * change. */
-static uint64_t first_event(size_t kept, size_t answer_len)
+static uint64_t first_event(uint64_t kept, uint64_t answer_len)
 {
     uint32_t live[KROSSVIL_LIVE] = { 0 };
     return krossvil_live(table, table_len, live, kept, stimulus, 4, written, KROSSVIL_RECORD_MAX, answer, answer_len);
 }
 
-static uint64_t next_event(size_t record_len)
+static uint64_t next_event(uint64_t record_len)
 {
     uint32_t live[KROSSVIL_LIVE] = { 1 };
     return krossvil_live(table, table_len, live, KROSSVIL_LIVE, change, sizeof change, written, record_len, answer, sizeof answer);
 }
 
-static uint64_t live_answer(size_t len) { return first_event(KROSSVIL_LIVE, len); }
+static uint64_t live_answer(uint64_t len) { return first_event(KROSSVIL_LIVE, len); }
 
-static uint64_t live_kept(size_t kept) { return first_event(kept, sizeof answer); }
+static uint64_t live_kept(uint64_t kept) { return first_event(kept, sizeof answer); }
 
-static uint64_t watch(size_t len)
+static uint64_t watch(uint64_t len)
 {
     uint32_t live[KROSSVIL_LIVE] = { 0 };
     return krossvil_watch(table, table_len, live, KROSSVIL_LIVE, opening, sizeof opening, answer, len);
 }
 
-static int answers(uint64_t (*call)(size_t), size_t size)
+static int answers(uint64_t (*call)(uint64_t), uint64_t size)
 {
     return call(size) == 0 && krossvil_number(call(size - 1)) == KROSSVIL_TOO_SHORT;
 }
@@ -172,21 +172,21 @@ static void test_answers(void)
 /* ---- Sizes ---- */
 
 /* Whether so many zeros are refused for their first field, and one more as too long. */
-static int is_most(uint64_t (*call)(size_t), size_t most)
+static int is_most(uint64_t (*call)(uint64_t), uint64_t most)
 {
     return krossvil_number(call(most)) == KROSSVIL_WRONG_FIELD && krossvil_number(call(most + 1)) == KROSSVIL_TOO_LONG;
 }
 
-static uint64_t zeros_as_journal(size_t len) { return krossvil_check_journal(table, table_len, zeros, len, answer, sizeof answer); }
+static uint64_t zeros_as_journal(uint64_t len) { return krossvil_check_journal(table, table_len, zeros, len, answer, sizeof answer); }
 
-static uint64_t zeros_as_short(size_t len) { return krossvil_check_short(table, table_len, zeros, len, answer, sizeof answer); }
+static uint64_t zeros_as_short(uint64_t len) { return krossvil_check_short(table, table_len, zeros, len, answer, sizeof answer); }
 
-static uint64_t zeros_as_stimulus(size_t len)
+static uint64_t zeros_as_stimulus(uint64_t len)
 {
     return krossvil_run(table, table_len, zeros, len, written, sizeof written, answer, sizeof answer);
 }
 
-static uint64_t zeros_as_stamped(size_t len)
+static uint64_t zeros_as_stamped(uint64_t len)
 {
     return krossvil_read_stamped(zeros, len, written, sizeof written, answer, sizeof answer);
 }
@@ -217,12 +217,12 @@ static void test_salvaged(void)
 {
     EXPECT(krossvil_salvage(table, table_len, journal, journal_len - 1, salvaged, sizeof salvaged, answer, sizeof answer) == 0);
     EXPECT(krossvil_answer(answer, KROSSVIL_SALVAGE_NUMBER) == KROSSVIL_RUNS_OUT);
-    size_t len = krossvil_salvaged_len(answer);
+    uint64_t len = krossvil_salvaged_len(answer);
     EXPECT(krossvil_check_journal(table, table_len, salvaged, len, answer, sizeof answer) == 0);
     EXPECT(krossvil_number(krossvil_check_journal(table, table_len, salvaged, len - 1, answer, sizeof answer)) == KROSSVIL_RUNS_OUT);
 }
 
-static uint32_t number_of_moves(uint32_t moves, size_t sums_len, size_t path_len)
+static uint32_t number_of_moves(uint32_t moves, uint64_t sums_len, uint64_t path_len)
 {
     return krossvil_number(krossvil_reaction_moves(table, table_len, EVERY_STATE, EVERY_INPUT, moves, sums, sums_len, path, path_len,
                                                    answer, sizeof answer));
@@ -230,7 +230,7 @@ static uint32_t number_of_moves(uint32_t moves, size_t sums_len, size_t path_len
 
 static void test_moves(void)
 {
-    const size_t need = krossvil_sums_len(STATES, KROSSVIL_MOVES_MAX);
+    const uint64_t need = krossvil_sums_len(STATES, KROSSVIL_MOVES_MAX);
     EXPECT(krossvil_sums_len(MOST, KROSSVIL_MOVES_MAX) == KROSSVIL_SUMS_MAX);
     EXPECT(krossvil_path_len(KROSSVIL_MOVES_MAX) == KROSSVIL_PATH_MAX && krossvil_path_len(0) == 0);
     EXPECT(number_of_moves(KROSSVIL_MOVES_MAX, need, KROSSVIL_PATH_MAX) == 0);
@@ -239,14 +239,14 @@ static void test_moves(void)
     EXPECT(number_of_moves(KROSSVIL_MOVES_MAX + 1, KROSSVIL_SUMS_MAX, KROSSVIL_PATH_MAX) == KROSSVIL_TOO_MANY_MOVES);
 }
 
-static uint32_t number_of_report(size_t report_len)
+static uint32_t number_of_report(uint64_t report_len)
 {
     return krossvil_number(krossvil_report_add(table, table_len, journal, journal_len, report, report_len));
 }
 
 static void test_report(void)
 {
-    const size_t need = krossvil_report_len(STATES, INPUTS);
+    const uint64_t need = krossvil_report_len(STATES, INPUTS);
     EXPECT(krossvil_report_len(MOST, MOST) == KROSSVIL_REPORT_MAX);
     EXPECT(krossvil_entries_at(STATES, INPUTS, STATES - 1) == need - 1);
     EXPECT(number_of_report(need - 1) == KROSSVIL_TOO_SHORT);

@@ -7,31 +7,31 @@
 #include <stddef.h>
 #include <stdint.h>
 
-uint64_t plain_check_table(const uint8_t *table, size_t table_len);
+uint64_t plain_check_table(const uint8_t *table, uint64_t table_len);
 
-uint64_t plain_check_journal(const uint8_t *table, size_t table_len, const uint8_t *journal, size_t journal_len,
-                             uint8_t *answer, size_t answer_len);
+uint64_t plain_check_journal(const uint8_t *table, uint64_t table_len, const uint8_t *journal, uint64_t journal_len,
+                             uint8_t *answer, uint64_t answer_len);
 
-uint64_t plain_check_short(const uint8_t *table, size_t table_len, const uint8_t *short_journal, size_t short_len,
-                           uint8_t *answer, size_t answer_len);
+uint64_t plain_check_short(const uint8_t *table, uint64_t table_len, const uint8_t *short_journal, uint64_t short_len,
+                           uint8_t *answer, uint64_t answer_len);
 
-uint64_t plain_report_add(const uint8_t *table, size_t table_len, const uint8_t *journal, size_t journal_len, uint64_t *report,
-                          size_t report_len);
+uint64_t plain_report_add(const uint8_t *table, uint64_t table_len, const uint8_t *journal, uint64_t journal_len, uint64_t *report,
+                          uint64_t report_len);
 
-uint64_t plain_run(const uint8_t *table, size_t table_len, const uint8_t *stimulus, size_t stimulus_len,
-                   uint8_t *journal, size_t journal_len, uint8_t *answer, size_t answer_len);
+uint64_t plain_run(const uint8_t *table, uint64_t table_len, const uint8_t *stimulus, uint64_t stimulus_len,
+                   uint8_t *journal, uint64_t journal_len, uint8_t *answer, uint64_t answer_len);
 
-uint64_t plain_reaction(const uint8_t *table, size_t table_len, uint32_t states, uint32_t inputs, uint8_t *answer,
-                        size_t answer_len);
+uint64_t plain_reaction(const uint8_t *table, uint64_t table_len, uint32_t states, uint32_t inputs, uint8_t *answer,
+                        uint64_t answer_len);
 
-uint64_t plain_reaction_moves(const uint8_t *table, size_t table_len, uint32_t states, uint32_t inputs, uint32_t moves, uint32_t *sums,
-                              size_t sums_len, uint8_t *path, size_t path_len, uint8_t *answer, size_t answer_len);
+uint64_t plain_reaction_moves(const uint8_t *table, uint64_t table_len, uint32_t states, uint32_t inputs, uint32_t moves, uint32_t *sums,
+                              uint64_t sums_len, uint8_t *path, uint64_t path_len, uint8_t *answer, uint64_t answer_len);
 
 /* host/plain-live.c */
-uint64_t plain_live(const uint8_t *table, size_t table_len, uint32_t *live, size_t live_len, const uint8_t *event, size_t event_len,
-                    uint8_t *record, size_t record_len, uint8_t *answer, size_t answer_len);
+uint64_t plain_live(const uint8_t *table, uint64_t table_len, uint32_t *live, uint64_t live_len, const uint8_t *event, uint64_t event_len,
+                    uint8_t *record, uint64_t record_len, uint8_t *answer, uint64_t answer_len);
 
-uint64_t plain_watch(const uint8_t *table, size_t table_len, uint32_t *live, size_t live_len, const uint8_t *record, size_t record_len,
-                     uint8_t *answer, size_t answer_len);
+uint64_t plain_watch(const uint8_t *table, uint64_t table_len, uint32_t *live, uint64_t live_len, const uint8_t *record, uint64_t record_len,
+                     uint8_t *answer, uint64_t answer_len);
 
 #endif

@@ -28,56 +28,56 @@
 #define reference_watch second_watch
 #endif
 
-uint64_t reference_check_table(const uint8_t *table, size_t table_len);
+uint64_t reference_check_table(const uint8_t *table, uint64_t table_len);
 
-uint64_t reference_check_journal(const uint8_t *table, size_t table_len, const uint8_t *journal, size_t journal_len,
-                                 uint8_t *answer, size_t answer_len);
+uint64_t reference_check_journal(const uint8_t *table, uint64_t table_len, const uint8_t *journal, uint64_t journal_len,
+                                 uint8_t *answer, uint64_t answer_len);
 
-uint64_t reference_run(const uint8_t *table, size_t table_len, const uint8_t *stimulus, size_t stimulus_len,
-                       uint8_t *journal, size_t journal_len, uint8_t *answer, size_t answer_len);
+uint64_t reference_run(const uint8_t *table, uint64_t table_len, const uint8_t *stimulus, uint64_t stimulus_len,
+                       uint8_t *journal, uint64_t journal_len, uint8_t *answer, uint64_t answer_len);
 
-uint64_t reference_reaction(const uint8_t *table, size_t table_len, uint32_t states, uint32_t inputs,
-                            uint8_t *answer, size_t answer_len);
+uint64_t reference_reaction(const uint8_t *table, uint64_t table_len, uint32_t states, uint32_t inputs,
+                            uint8_t *answer, uint64_t answer_len);
 
-uint64_t reference_reaction_moves(const uint8_t *table, size_t table_len, uint32_t states, uint32_t inputs, uint32_t moves,
-                                  uint32_t *sums, size_t sums_len, uint8_t *path, size_t path_len, uint8_t *answer,
-                                  size_t answer_len);
+uint64_t reference_reaction_moves(const uint8_t *table, uint64_t table_len, uint32_t states, uint32_t inputs, uint32_t moves,
+                                  uint32_t *sums, uint64_t sums_len, uint8_t *path, uint64_t path_len, uint8_t *answer,
+                                  uint64_t answer_len);
 
-uint64_t reference_reaction_tight(const uint8_t *table, size_t table_len, uint32_t states, uint32_t inputs,
-                                  uint8_t *answer, size_t answer_len);
+uint64_t reference_reaction_tight(const uint8_t *table, uint64_t table_len, uint32_t states, uint32_t inputs,
+                                  uint8_t *answer, uint64_t answer_len);
 
-uint64_t reference_convert_table(const uint8_t *table, size_t table_len, uint8_t *new_table, size_t new_table_len,
-                                 uint8_t *answer, size_t answer_len);
+uint64_t reference_convert_table(const uint8_t *table, uint64_t table_len, uint8_t *new_table, uint64_t new_table_len,
+                                 uint8_t *answer, uint64_t answer_len);
 
-uint64_t reference_read_stamped(const uint8_t *stamped, size_t stamped_len, uint8_t *journal, size_t journal_len,
-                                uint8_t *answer, size_t answer_len);
+uint64_t reference_read_stamped(const uint8_t *stamped, uint64_t stamped_len, uint8_t *journal, uint64_t journal_len,
+                                uint8_t *answer, uint64_t answer_len);
 
-uint64_t reference_check_short(const uint8_t *table, size_t table_len, const uint8_t *short_journal, size_t short_len,
-                               uint8_t *answer, size_t answer_len);
+uint64_t reference_check_short(const uint8_t *table, uint64_t table_len, const uint8_t *short_journal, uint64_t short_len,
+                               uint8_t *answer, uint64_t answer_len);
 
-uint64_t reference_shorten(const uint8_t *table, size_t table_len, const uint8_t *journal, size_t journal_len,
-                           uint8_t *short_journal, size_t short_len, uint8_t *answer, size_t answer_len);
+uint64_t reference_shorten(const uint8_t *table, uint64_t table_len, const uint8_t *journal, uint64_t journal_len,
+                           uint8_t *short_journal, uint64_t short_len, uint8_t *answer, uint64_t answer_len);
 
-uint64_t reference_lengthen(const uint8_t *table, size_t table_len, const uint8_t *short_journal, size_t short_len,
-                            uint8_t *journal, size_t journal_len, uint8_t *answer, size_t answer_len);
+uint64_t reference_lengthen(const uint8_t *table, uint64_t table_len, const uint8_t *short_journal, uint64_t short_len,
+                            uint8_t *journal, uint64_t journal_len, uint8_t *answer, uint64_t answer_len);
 
-uint64_t reference_salvage(const uint8_t *table, size_t table_len, const uint8_t *journal, size_t journal_len,
-                           uint8_t *salvaged, size_t salvaged_len, uint8_t *answer, size_t answer_len);
+uint64_t reference_salvage(const uint8_t *table, uint64_t table_len, const uint8_t *journal, uint64_t journal_len,
+                           uint8_t *salvaged, uint64_t salvaged_len, uint8_t *answer, uint64_t answer_len);
 
-uint64_t reference_report_add(const uint8_t *table, size_t table_len, const uint8_t *journal, size_t journal_len,
-                              uint64_t *report, size_t report_len);
+uint64_t reference_report_add(const uint8_t *table, uint64_t table_len, const uint8_t *journal, uint64_t journal_len,
+                              uint64_t *report, uint64_t report_len);
 
-uint64_t reference_live(const uint8_t *table, size_t table_len, uint32_t *live, size_t live_len, const uint8_t *event,
-                        size_t event_len, uint8_t *record, size_t record_len, uint8_t *answer, size_t answer_len);
+uint64_t reference_live(const uint8_t *table, uint64_t table_len, uint32_t *live, uint64_t live_len, const uint8_t *event,
+                        uint64_t event_len, uint8_t *record, uint64_t record_len, uint8_t *answer, uint64_t answer_len);
 
-uint64_t reference_watch(const uint8_t *table, size_t table_len, uint32_t *live, size_t live_len, const uint8_t *record,
-                         size_t record_len, uint8_t *answer, size_t answer_len);
+uint64_t reference_watch(const uint8_t *table, uint64_t table_len, uint32_t *live, uint64_t live_len, const uint8_t *record,
+                         uint64_t record_len, uint8_t *answer, uint64_t answer_len);
 
 /* What a journal adds to a report, 1,089 places at most: counted slot by slot, which is what the rules say, or stretch by stretch from
  * one record to the next. Returns how many numbers there are; 0 if the journal is refused, or is too long to be counted in this way. */
 enum counting { BY_SLOTS, BY_STRETCHES };
 
-size_t reference_tally(const uint8_t *table, size_t table_len, const uint8_t *journal, size_t journal_len,
+size_t reference_tally(const uint8_t *table, uint64_t table_len, const uint8_t *journal, uint64_t journal_len,
                        enum counting counting, uint64_t *numbers);
 
 /* What several moves come to: worked out by the paths themselves, tried one by one, which is what the rules say, or by rounds, a row of
@@ -92,7 +92,7 @@ struct several {
     uint8_t path[65];
 };
 
-bool reference_several(const uint8_t *table, size_t table_len, uint32_t states, uint32_t inputs, uint32_t moves, enum way way,
+bool reference_several(const uint8_t *table, uint64_t table_len, uint32_t states, uint32_t inputs, uint32_t moves, enum way way,
                        struct several *several);
 
 #endif

@@ -4,14 +4,14 @@
  * of torn journals, and a report of where the time of many journals went; for polling controllers, and a host program in C.
  * docs/RULES.md has all the rules in words.
  *
- * Link with libkrossvil.a (x86-64). The functions keep no state, allocate nothing, call only memcpy and memset, and never stop the program:
- * each ends with an answer on any bytes. So they may be called from several threads at once, as long as no thread writes to a slice that
- * another call was given. How much stack they need is below; that is measured, not proved.
+ * Link with libkrossvil.a, which there is for several processors: docs/C.md names them. The functions keep no state, allocate nothing, call
+ * only memcpy and memset, and never stop the program: each ends with an answer on any bytes. So they may be called from several threads at
+ * once, as long as no thread writes to a slice that another call was given. How much stack they need is below; that is measured, not proved.
  *
- * Slices. A slice is a pointer and the number of bytes at it. The pointer is never null, not even if the number is 0, and a slice
- * that a function writes to (without const) shares no byte with another slice of the same call. Three slices have numbers in the place
- * of bytes, in the processor's own byte order: the sums of krossvil_reaction_moves, the report of krossvil_report_add, and the memory of
- * krossvil_live and krossvil_watch.
+ * Slices. A slice is a pointer and the number of bytes at it, which has 64 bits on every processor. The pointer is never null, not even if
+ * the number is 0, and a slice that a function writes to (without const) shares no byte with another slice of the same call. Three slices
+ * have numbers in the place of bytes: the sums of krossvil_reaction_moves, the report of krossvil_report_add, and the memory of
+ * krossvil_live and krossvil_watch. These are in the processor's own byte order; nothing else depends on it.
  *
  * The number that comes back. 0 is success. Otherwise it is refusal number * 2^32 + place: krossvil_number and krossvil_place
  * below take it apart, and krossvil_refusal names the numbers. On a refusal no byte of any slice has changed.
@@ -249,18 +249,18 @@ enum krossvil_phase {
 /* ---- Functions ---- */
 
 /* Does the table pass? There are no further numbers. */
-uint64_t krossvil_check_table(const uint8_t *table, size_t table_len);
+uint64_t krossvil_check_table(const uint8_t *table, uint64_t table_len);
 
 /* Is the journal a run of the table's machine? Answer, 28 bytes: T, the number of ticks, the number of moves (ticks that change the
  * state), the last state, its output, the most ticks that a held test had left until its hold, or every timer that held it, was
  * passed (0 if none was held), and the longest completed cycle, from a tick or from 0 to the next tick (0 if there was none). */
-uint64_t krossvil_check_journal(const uint8_t *table, size_t table_len, const uint8_t *journal, size_t journal_len,
-                                uint8_t *answer, size_t answer_len);
+uint64_t krossvil_check_journal(const uint8_t *table, uint64_t table_len, const uint8_t *journal, uint64_t journal_len,
+                                uint8_t *answer, uint64_t answer_len);
 
 /* Run the table's machine on a stimulus and write its journal at the start of `journal`; the bytes past it are unchanged. 28 never comes:
  * a stimulus names no polled input, verdict or state, and the machine's own are written. Answer, 4 bytes: the journal's length. */
-uint64_t krossvil_run(const uint8_t *table, size_t table_len, const uint8_t *stimulus, size_t stimulus_len,
-                      uint8_t *journal, size_t journal_len, uint8_t *answer, size_t answer_len);
+uint64_t krossvil_run(const uint8_t *table, uint64_t table_len, const uint8_t *stimulus, uint64_t stimulus_len,
+                      uint8_t *journal, uint64_t journal_len, uint8_t *answer, uint64_t answer_len);
 
 /* How long until the state is in the target, once it stays in `states` and the input in `inputs`? Sets are numbers, bit i for
  * member i; empty sets are allowed. The target is the set of every next(p, a), for p in `states` and a in `inputs`, and must lie in
@@ -269,8 +269,8 @@ uint64_t krossvil_run(const uint8_t *table, size_t table_len, const uint8_t *sti
  * each slot from s to s + c - 1 has its state in `states` and its input in `inputs`, slot s + c has its state in the target. (Slot k is
  * the time from k to k + 1; its state and input are those after every record up to time k, those at k included.)
  * A table with timers is refused (14). Answer, 8 bytes: the reaction time in units of the table's times, the target set. */
-uint64_t krossvil_reaction(const uint8_t *table, size_t table_len, uint32_t states, uint32_t inputs,
-                           uint8_t *answer, size_t answer_len);
+uint64_t krossvil_reaction(const uint8_t *table, uint64_t table_len, uint32_t states, uint32_t inputs,
+                           uint8_t *answer, uint64_t answer_len);
 
 /* How long until the state is in the target of several moves, once it stays in `states` and the input in `inputs`? For so many moves, 0
  * to 32, the target is what next(S, inputs), the set of every next(s, a), makes of S when it is applied so many times to `states`. A path
@@ -286,59 +286,59 @@ uint64_t krossvil_reaction(const uint8_t *table, size_t table_len, uint32_t stat
  * (krossvil_path_len below).
  * A table with timers is refused (14). 10 comes for 0 moves too. Answer, 12 bytes: the reaction time, the target set, the path's length in
  * bytes. For one move, time and target are those of krossvil_reaction, and so are the refusals but for 33 and 30. */
-uint64_t krossvil_reaction_moves(const uint8_t *table, size_t table_len, uint32_t states, uint32_t inputs, uint32_t moves,
-                                 uint32_t *sums, size_t sums_len, uint8_t *path, size_t path_len,
-                                 uint8_t *answer, size_t answer_len);
+uint64_t krossvil_reaction_moves(const uint8_t *table, uint64_t table_len, uint32_t states, uint32_t inputs, uint32_t moves,
+                                 uint32_t *sums, uint64_t sums_len, uint8_t *path, uint64_t path_len,
+                                 uint8_t *answer, uint64_t answer_len);
 
 /* How many sums there must be, for so many states and moves, and how many bytes of path. */
-static inline size_t krossvil_sums_len(uint32_t state_count, uint32_t moves)
+static inline uint64_t krossvil_sums_len(uint32_t state_count, uint32_t moves)
 {
-    return (size_t)state_count * moves;
+    return (uint64_t)state_count * moves;
 }
 
-static inline size_t krossvil_path_len(uint32_t moves)
+static inline uint64_t krossvil_path_len(uint32_t moves)
 {
-    return moves == 0 ? 0 : 2 * (size_t)moves - 1;
+    return moves == 0 ? 0 : 2 * (uint64_t)moves - 1;
 }
 
 /* What krossvil_reaction tells, and beside it the tight time, which is enough too, since times are whole numbers. Refusals are those of
  * krossvil_reaction. Answer, 12 bytes: the reaction time, the target set, the tight time. The tight time is the reaction time where no
  * member of `states` lies outside the target; otherwise it is less by 2 if one of those that do has a hold and delays an input of
  * `inputs`, and by 1 if none does. Nothing is said of shorter times: for some tables one of them would be enough. */
-uint64_t krossvil_reaction_tight(const uint8_t *table, size_t table_len, uint32_t states, uint32_t inputs,
-                                 uint8_t *answer, size_t answer_len);
+uint64_t krossvil_reaction_tight(const uint8_t *table, uint64_t table_len, uint32_t states, uint32_t inputs,
+                                 uint8_t *answer, uint64_t answer_len);
 
 /* For a table with holds that was made before there was 11. Write it at the start of `new_table`, with the delayed set emptied at
  * each state whose hold is 0, where it never had an effect: the new table has as many bytes, passes, and behaves the same in every
  * journal and every reaction time. The bytes past it are unchanged. Answer, 4 bytes: how many states had a set that was not empty
  * and is now. */
-uint64_t krossvil_convert_table(const uint8_t *table, size_t table_len, uint8_t *new_table, size_t new_table_len,
-                                uint8_t *answer, size_t answer_len);
+uint64_t krossvil_convert_table(const uint8_t *table, uint64_t table_len, uint8_t *new_table, uint64_t new_table_len,
+                                uint8_t *answer, uint64_t answer_len);
 
 /* Read a stamped journal and write its long form, the journal with its times, at the start of `journal`; the bytes past it are
  * unchanged. The first time is the first stamp, and each later one the time before plus (stamp - stamp before) modulo 65,536. That
  * is right where no record is 65,536 or more after the one before, as in every run of a machine. Inputs, verdicts and states are
  * carried over as they stand; krossvil_check_journal says whether the journal is a run. Answer, 4 bytes: the journal's length. */
-uint64_t krossvil_read_stamped(const uint8_t *stamped, size_t stamped_len, uint8_t *journal, size_t journal_len,
-                               uint8_t *answer, size_t answer_len);
+uint64_t krossvil_read_stamped(const uint8_t *stamped, uint64_t stamped_len, uint8_t *journal, uint64_t journal_len,
+                               uint8_t *answer, uint64_t answer_len);
 
 /* Is the short journal a run of the table's machine? It is if the journal that it stands for is, were that ever so long; the answer, 28
  * bytes, has the same numbers. A place is one in the short journal. */
-uint64_t krossvil_check_short(const uint8_t *table, size_t table_len, const uint8_t *short_journal, size_t short_len,
-                              uint8_t *answer, size_t answer_len);
+uint64_t krossvil_check_short(const uint8_t *table, uint64_t table_len, const uint8_t *short_journal, uint64_t short_len,
+                              uint8_t *answer, uint64_t answer_len);
 
 /* Check a journal, and write it as a short journal at the start of `short_journal`; the bytes past it are unchanged. What is not
  * accepted is refused as krossvil_check_journal refuses it: only in a run is every gap known to fit. Answer, 4 bytes: the short
  * journal's length. */
-uint64_t krossvil_shorten(const uint8_t *table, size_t table_len, const uint8_t *journal, size_t journal_len,
-                          uint8_t *short_journal, size_t short_len, uint8_t *answer, size_t answer_len);
+uint64_t krossvil_shorten(const uint8_t *table, uint64_t table_len, const uint8_t *journal, uint64_t journal_len,
+                          uint8_t *short_journal, uint64_t short_len, uint8_t *answer, uint64_t answer_len);
 
 /* Check a short journal, and write the journal that it stands for at the start of `journal`; the bytes past it are unchanged. What is
  * not accepted is refused as krossvil_check_short refuses it; then comes 34, if the journal would pass 65,536 bytes, then 30. What
  * was shortened is lengthened to the same bytes, and what was lengthened is shortened to the same bytes. Answer, 4 bytes: the
  * journal's length. */
-uint64_t krossvil_lengthen(const uint8_t *table, size_t table_len, const uint8_t *short_journal, size_t short_len,
-                           uint8_t *journal, size_t journal_len, uint8_t *answer, size_t answer_len);
+uint64_t krossvil_lengthen(const uint8_t *table, uint64_t table_len, const uint8_t *short_journal, uint64_t short_len,
+                           uint8_t *journal, uint64_t journal_len, uint8_t *answer, uint64_t answer_len);
 
 /* Write what is sound of a torn journal at the start of `salvaged`; the bytes past it are unchanged. An accepted journal is written as
  * it is: the answer is its length, 0, 0 and 0. Otherwise krossvil_check_journal refuses it at some record, or at the bytes behind the
@@ -347,8 +347,8 @@ uint64_t krossvil_lengthen(const uint8_t *table, size_t table_len, const uint8_t
  * number of bytes kept, without the end field that is added; the number of bytes dropped; the refusal number and the place that
  * stopped it. What is written is accepted, and comes back unchanged when it is salvaged; it has at most 65,531 bytes, and up to 7 more
  * than the journal. A journal that is too long, or whose opening field is refused, is refused in the same way. */
-uint64_t krossvil_salvage(const uint8_t *table, size_t table_len, const uint8_t *journal, size_t journal_len,
-                          uint8_t *salvaged, size_t salvaged_len, uint8_t *answer, size_t answer_len);
+uint64_t krossvil_salvage(const uint8_t *table, uint64_t table_len, const uint8_t *journal, uint64_t journal_len,
+                          uint8_t *salvaged, uint64_t salvaged_len, uint8_t *answer, uint64_t answer_len);
 
 /* Check a journal, and add where its time went to a report. The report is memory of the host's: report_len numbers of 64 bits, in the
  * processor's own byte order, aligned to 8 bytes; no other argument overlaps it. It begins with zeros, and has these numbers:
@@ -365,8 +365,8 @@ uint64_t krossvil_salvage(const uint8_t *table, size_t table_len, const uint8_t 
  * journals are added makes no difference while no 35 comes.
  * The report does not say under which table it was begun: the table is given with each journal, and that it is the same for all of
  * them is for the host to see to. Under another table numbers would be added at places that mean something else. */
-uint64_t krossvil_report_add(const uint8_t *table, size_t table_len, const uint8_t *journal, size_t journal_len,
-                             uint64_t *report, size_t report_len);
+uint64_t krossvil_report_add(const uint8_t *table, uint64_t table_len, const uint8_t *journal, uint64_t journal_len,
+                             uint64_t *report, uint64_t report_len);
 
 /* Take the next event of a stimulus, and write the record that it makes at the start of `record`; the bytes past it are unchanged. One
  * event is one field: 20 first, then 21 to 24, and 2F last. The records one after another are the journal that krossvil_run would write of
@@ -381,19 +381,19 @@ uint64_t krossvil_report_add(const uint8_t *table, size_t table_len, const uint8
  * After the end field every event is 22 at 0. A refused event changes nothing, and may be mended and given again. There must be room for
  * the record as a journal has it, 4, 8 or, for the end, 7 bytes (30). Answer, 24 bytes: the record's length; the state and its output, as
  * they are now; the phase; the ticks left at this test, 0 if it is free, and at any other event; the deadline, cycle start + E. */
-uint64_t krossvil_live(const uint8_t *table, size_t table_len, uint32_t *live, size_t live_len, const uint8_t *event, size_t event_len,
-                       uint8_t *record, size_t record_len, uint8_t *answer, size_t answer_len);
+uint64_t krossvil_live(const uint8_t *table, uint64_t table_len, uint32_t *live, uint64_t live_len, const uint8_t *event, uint64_t event_len,
+                       uint8_t *record, uint64_t record_len, uint8_t *answer, uint64_t answer_len);
 
 /* Take the next record of a journal, and judge it, with memory as krossvil_live has it: a record that krossvil_live has written is taken,
  * and the memory is then the same. One record is one field: 10 first, then 11 to 14, and 1F last. Answer, 28 bytes: the numbers of
  * krossvil_check_journal, as if the journal ended with this record; T is its time, 0 after the opening field. */
-uint64_t krossvil_watch(const uint8_t *table, size_t table_len, uint32_t *live, size_t live_len, const uint8_t *record, size_t record_len,
-                        uint8_t *answer, size_t answer_len);
+uint64_t krossvil_watch(const uint8_t *table, uint64_t table_len, uint32_t *live, uint64_t live_len, const uint8_t *record, uint64_t record_len,
+                        uint8_t *answer, uint64_t answer_len);
 
 /* How many numbers a report has, and where in it they stand. */
-static inline size_t krossvil_report_len(uint32_t state_count, uint32_t input_count)
+static inline uint64_t krossvil_report_len(uint32_t state_count, uint32_t input_count)
 {
-    return 1 + 2 * (size_t)state_count + (size_t)state_count * input_count;
+    return 1 + 2 * (uint64_t)state_count + (uint64_t)state_count * input_count;
 }
 
 #define KROSSVIL_REPORT_ADDED 0u /* how many journals were added */
@@ -427,9 +427,9 @@ static inline uint32_t krossvil_answer(const uint8_t *answer, size_t place)
 static inline uint32_t krossvil_read(const uint8_t *answer, size_t k) { return krossvil_answer(answer, k); }
 
 /* How many bytes krossvil_salvage wrote: those kept and, where something was refused, an end field. */
-static inline size_t krossvil_salvaged_len(const uint8_t *answer)
+static inline uint64_t krossvil_salvaged_len(const uint8_t *answer)
 {
-    return (size_t)krossvil_answer(answer, KROSSVIL_SALVAGE_KEPT) + (krossvil_answer(answer, KROSSVIL_SALVAGE_NUMBER) == 0 ? 0 : 7);
+    return (uint64_t)krossvil_answer(answer, KROSSVIL_SALVAGE_KEPT) + (krossvil_answer(answer, KROSSVIL_SALVAGE_NUMBER) == 0 ? 0 : 7);
 }
 
 /* Q, I and O of a table that passes. */

@@ -94,8 +94,8 @@ static uint64_t came_back(const char *name, uint64_t number)
 }
 
 #define BYTES(name) name, name##_len
-#define TAKES(name) const uint8_t *name, size_t name##_len
-#define FILLS(name) uint8_t *name, size_t name##_len
+#define TAKES(name) const uint8_t *name, uint64_t name##_len
+#define FILLS(name) uint8_t *name, uint64_t name##_len
 
 /* WRAP(function, (its parameters), (their names), what is given) */
 #define WRAP(function, parameters, names, ...) \
@@ -133,14 +133,14 @@ REWRITES(krossvil_salvage)
 COPIES(krossvil_convert_table)
 COPIES(krossvil_read_stamped)
 REACTS(krossvil_reaction)
-WRAP(krossvil_report_add, (TAKES(table), TAKES(input), uint64_t *report, size_t report_len),
+WRAP(krossvil_report_add, (TAKES(table), TAKES(input), uint64_t *report, uint64_t report_len),
      (BYTES(table), BYTES(input), BYTES(report)), TABLE, INPUT, give(report, report_len, 8))
 
 #ifdef HAS_krossvil_live
 #define MEMORY give(live, live_len, 4)
-WRAP(krossvil_live, (TAKES(table), uint32_t *live, size_t live_len, TAKES(input), FILLS(output), FILLS(answer)),
+WRAP(krossvil_live, (TAKES(table), uint32_t *live, uint64_t live_len, TAKES(input), FILLS(output), FILLS(answer)),
      (BYTES(table), BYTES(live), BYTES(input), BYTES(output), BYTES(answer)), TABLE, MEMORY, INPUT, OUTPUT, ANSWER)
-WRAP(krossvil_watch, (TAKES(table), uint32_t *live, size_t live_len, TAKES(input), FILLS(answer)),
+WRAP(krossvil_watch, (TAKES(table), uint32_t *live, uint64_t live_len, TAKES(input), FILLS(answer)),
      (BYTES(table), BYTES(live), BYTES(input), BYTES(answer)), TABLE, MEMORY, INPUT, ANSWER)
 #endif
 #ifdef HAS_krossvil_reaction_tight
@@ -148,7 +148,7 @@ REACTS(krossvil_reaction_tight)
 #endif
 #ifdef HAS_krossvil_reaction_moves
 WRAP(krossvil_reaction_moves,
-     (TAKES(table), uint32_t states, uint32_t inputs, uint32_t moves, uint32_t *sums, size_t sums_len, FILLS(path), FILLS(answer)),
+     (TAKES(table), uint32_t states, uint32_t inputs, uint32_t moves, uint32_t *sums, uint64_t sums_len, FILLS(path), FILLS(answer)),
      (BYTES(table), states, inputs, moves, BYTES(sums), BYTES(path), BYTES(answer)), TABLE, give_number(states), give_number(inputs),
      give_number(moves), give(sums, sums_len, 4), give(path, path_len, 1), ANSWER)
 #endif
