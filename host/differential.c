@@ -65,6 +65,8 @@ enum {
 
 /* ---- chance ---- */
 
+/* Every processor gets the same cases of a seed (host/test-targets.sh): where C leaves an order open, no two draws depend on it. */
+
 static uint64_t chance_state;
 
 static uint64_t draw64(void)
@@ -134,6 +136,15 @@ static void head(struct bytes *bytes, unsigned tag, size_t length)
     add(bytes, (unsigned)(length & 0xFF));
 }
 
+/* One bit of the first so many bytes. */
+static void flip_bit(struct bytes *bytes, size_t of)
+{
+    if (of == 0)
+        return;
+    uint8_t bit = (uint8_t)(1u << below(8));
+    bytes->at[below((uint32_t)of)] ^= bit;
+}
+
 /* Damage that knows nothing of fields save where they start. */
 static void damage_bytes(struct bytes *bytes, const size_t *starts, size_t count, size_t limit)
 {
@@ -153,18 +164,21 @@ static void damage_bytes(struct bytes *bytes, const size_t *starts, size_t count
         bytes->len -= bytes->len == 0 ? 0 : below(bytes->len < 8 ? (uint32_t)bytes->len : 8) + 1u;
         break;
     case 3: /* one bit */
-        if (bytes->len > 0)
-            bytes->at[below((uint32_t)bytes->len)] ^= (uint8_t)(1u << below(8));
+        flip_bit(bytes, bytes->len);
         break;
     case 4: /* one byte */
-        if (bytes->len > 0)
-            bytes->at[below((uint32_t)bytes->len)] = (uint8_t)below(256);
+        if (bytes->len > 0) {
+            uint8_t byte = (uint8_t)below(256);
+            bytes->at[below((uint32_t)bytes->len)] = byte;
+        }
         break;
     case 5: /* a length by one, or far off */
-        if (headed && percent(70))
+        if (headed && percent(70)) {
             bytes->at[start + 2] = (uint8_t)(bytes->at[start + 2] + (percent(50) ? 1 : 255));
-        else if (headed)
-            bytes->at[start + 1 + below(2)] = percent(50) ? 0xFF : (uint8_t)below(256);
+        } else if (headed) {
+            uint8_t byte = percent(50) ? 0xFF : (uint8_t)below(256);
+            bytes->at[start + 1 + below(2)] = byte;
+        }
         break;
     case 6: /* a tag: by one, of another family, any */
         if (headed)
@@ -239,7 +253,10 @@ static uint32_t draw_length(uint32_t bound)
         return 3600000 - below(2);
     if (percent(5))
         return between(1, 3600000);
-    uint32_t length = percent(50) ? between(1, 3) * bound + below(3) : between(1, 6 * bound);
+    bool multiple = percent(50);
+    uint32_t length = multiple ? between(1, 3) * bound : between(1, 6 * bound);
+    if (multiple)
+        length += below(3);
     return length > 3600000 ? 3600000 : length;
 }
 
@@ -658,9 +675,8 @@ static void draw_records(const struct plan *plan, unsigned cycles, enum form for
         pieces[piece_count++] = piece;
     }
     uint32_t high = start + plan->bound;
-    pieces[piece_count++] = (struct piece){
-        .kind = END, .time = draw_time(now, high), .latest = high, .hold_end = draw_hold_end(plan, &m)
-    };
+    uint32_t end = draw_time(now, high);
+    pieces[piece_count++] = (struct piece){ .kind = END, .time = end, .latest = high, .hold_end = draw_hold_end(plan, &m) };
 }
 
 /* How long until the next record of a stamped journal: likely 0, 1, a turn of the counter less one, about half a turn,
@@ -686,7 +702,8 @@ static void draw_stamped(size_t count)
     pieces[0] = (struct piece){ .kind = OPENING, .value = below(values) };
     for (size_t k = 1; k <= count + 1; k++) {
         now += draw_gap(now);
-        pieces[k] = (struct piece){ .kind = (enum kind)between(CHANGE, TICK), .time = now, .value = below(values) };
+        enum kind kind = (enum kind)between(CHANGE, TICK);
+        pieces[k] = (struct piece){ .kind = kind, .time = now, .value = below(values) };
     }
     pieces[count + 1].kind = END;
     piece_count = count + 2;
@@ -782,13 +799,14 @@ static void damage_pieces(const struct plan *plan, enum form form)
         break;
     }
     case 10: pieces[k].kind = (enum kind)below(6); break;
-    case 11: /* a change at the instant of the record after, or before */
-        insert_piece(k, (struct piece){ .kind = CHANGE,
-                                        .time = pieces[percent(50) ? k : k - 1].time,
-                                        .value = below(plan->i),
-                                        .latest = pieces[k].latest,
-                                        .hold_end = pieces[k].hold_end });
+    case 11: { /* a change at the instant of the record after, or before */
+        struct piece piece = pieces[k];
+        piece.kind = CHANGE;
+        piece.time = pieces[percent(50) ? k : k - 1].time;
+        piece.value = below(plan->i);
+        insert_piece(k, piece);
         break;
+    }
     case 12: /* a poll at the instant of the change or tick before it */
         pieces[poll].time = pieces[poll - 1].time;
         break;
@@ -1375,8 +1393,10 @@ static void take_values(const struct bytes *sound_table)
 /* As many bytes as there may be, or a few more or less; of a short journal also around what can be lengthened. */
 static size_t draw_most(enum form form)
 {
-    if (form == SHORT)
-        return 9 + 6 * ((percent(50) ? MOST_RECORDS : MOST_SHORT) - 2 + (size_t)below(5));
+    if (form == SHORT) {
+        size_t most = percent(50) ? MOST_RECORDS : MOST_SHORT;
+        return 9 + 6 * (most - 2 + below(5));
+    }
     return percent(60) ? STIMULUS_LIMIT - below(percent(50) ? 1 : 30) : STIMULUS_LIMIT + below(12);
 }
 
@@ -1436,7 +1456,7 @@ static void tear(void)
     if (percent(12) && input.len >= 4) {
         switch (below(4)) {
         case 0: input.len = below(4); break;
-        case 1: input.at[below(3)] ^= (uint8_t)(1u << below(8)); break;
+        case 1: flip_bit(&input, 3); break;
         case 2:
             input.len -= 4;
             memmove(input.at, input.at + 4, input.len);
@@ -1875,7 +1895,8 @@ static void walk(const char *label, enum entry entry, const struct bytes *bytes)
 static uint32_t draw_instant(const struct plan *plan, uint32_t time)
 {
     uint32_t hold = plan->timed ? plan->length[below(plan->timers)] : plan->hold[below(plan->q)];
-    uint32_t back[] = { 0, 1, below(4), plan->bound, below(plan->bound + 1), hold, hold + 1, (uint32_t)draw64() };
+    uint32_t few = below(4), within = below(plan->bound + 1), any = (uint32_t)draw64();
+    uint32_t back[] = { 0, 1, few, plan->bound, within, hold, hold + 1, any };
     uint32_t distance = back[below(8)];
     return distance > time ? 0 : time - distance;
 }
@@ -1904,7 +1925,8 @@ static void damage_memory(const struct plan *plan, uint32_t *memory)
 {
     const uint32_t corners[] = { 0, 1, 2, 3, 4, plan->i - 1, plan->i, plan->q - 1, plan->q, plan->bound, plan->bound + 1, memory[8],
                                  memory[8] + 1, 2000000000, 2000000001, 3600001, 3600002, 0x80000000u, UINT32_MAX, 31, 32 };
-    memory[percent(10) ? 0 : below(KEPT)] = percent(90) ? corners[below(sizeof corners / sizeof *corners)] : (uint32_t)draw64();
+    uint32_t number = percent(90) ? corners[below(sizeof corners / sizeof *corners)] : (uint32_t)draw64();
+    memory[percent(10) ? 0 : below(KEPT)] = number;
 }
 
 /* A field of any kind at a time that tells, by this memory. */
@@ -1913,9 +1935,11 @@ static void draw_field(const struct plan *plan, enum form form, const uint32_t *
     static const enum kind by_phase[] = { POLL, TEST, TICK, TICK };
     struct piece kept = pieces[0];
     size_t count = piece_count;
-    const uint32_t times[] = { memory[8], memory[8] + 1, memory[8] + below(4), memory[7] + plan->bound, memory[7] + plan->bound + 1,
-                               memory[8] - 1, memory[5], memory[7], memory[8] + below(plan->bound + 1), 2000000000, 2000000001 };
-    struct piece piece = { .kind = percent(75) ? by_phase[memory[1] % 4] : (enum kind)below(6), .value = below(plan->i) };
+    uint32_t soon = memory[8] + below(4), within = memory[8] + below(plan->bound + 1);
+    const uint32_t times[] = { memory[8], memory[8] + 1, soon, memory[7] + plan->bound, memory[7] + plan->bound + 1,
+                               memory[8] - 1, memory[5], memory[7], within, 2000000000, 2000000001 };
+    struct piece piece = { .kind = percent(75) ? by_phase[memory[1] % 4] : (enum kind)below(6) };
+    piece.value = below(plan->i);
     piece.time = times[below(percent(70) ? 5 : 11)];
     if (piece.kind == POLL)
         piece.value = memory[2];
@@ -1936,8 +1960,8 @@ static void draw_field(const struct plan *plan, enum form form, const uint32_t *
         field->len = below((uint32_t)field->len);
     for (unsigned behind = percent(9) ? between(1, 9) : 0; behind > 0; behind--)
         add(field, below(256));
-    if (percent(6) && field->len > 0)
-        field->at[below((uint32_t)field->len)] ^= (uint8_t)(1u << below(8));
+    if (percent(6))
+        flip_bit(field, field->len);
 }
 
 static void any_memory_case(const char *label, const struct plan *plan, enum entry entry)
@@ -1989,7 +2013,8 @@ static void random_case(uint64_t seed, uint64_t number)
     snprintf(label, sizeof label, "case %" PRIu64 " of seed %" PRIu64, number, seed);
     call.entry = draw_entry();
     enum form takes = entries[call.entry].takes, writes = entries[call.entry].writes;
-    draw_table(&plan, &table, draw_kind(call.entry), percent(entries[call.entry].damaged));
+    bool damaged = percent(entries[call.entry].damaged);
+    draw_table(&plan, &table, draw_kind(call.entry), damaged);
     input.len = 0;
     bool rewritten = writes != NOTHING && writes != REPORT;
     bool sound = takes != NOTHING && draw_input(&plan, takes, rewritten ? writes : NOTHING);
