@@ -23,7 +23,7 @@ export function examplesFolder() {
 /** The file of the proved library. */
 export function libraryFile() {
   const file = madeFile('krossvil.wasm');
-  if (!file) throw new Trouble('the library is not built yet: run kit/wasm/build');
+  if (!file) throw new Trouble('the library is not built yet: run kit/native/build wasm');
   return file;
 }
 

@@ -11,7 +11,7 @@ stop() {
 }
 
 # The compiler puts the target's layout and triple in the place of the module's own, and changes nothing else.
-print_module() { # TARGET FROM TO FORM: -S is text, -c the toolchain's own form
-    "$tools/bin/clang" --target="$1" --no-default-config -Werror -Wno-override-module -emit-llvm -Xclang -disable-llvm-passes "$4" \
-        -x ir "$2" -o "$3"
+print_module() { # TRIPLE FROM TO FORM [FLAGS]: -S is text, -c the toolchain's own form
+    "$tools/bin/clang" --target="$1" "${@:5}" --no-default-config -Werror -Wno-override-module -emit-llvm -Xclang -disable-llvm-passes \
+        "$4" -x ir "$2" -o "$3"
 }
