@@ -2,8 +2,8 @@
 # shellcheck shell=bash disable=SC2034
 export LC_ALL=C
 home=${RATTLE_HOME:-$(dirname "$(dirname "$(rt doc)")")}
-own=on/$(uname -m)
-tools=$home/$own/toolchain
+on=on/$(uname -m)
+tools=$home/$on/toolchain
 
 stop() {
     printf '%s: %s\n' "$0" "$1" >&2

@@ -1,11 +1,13 @@
 /* Stands between host/differential.c and the native library: it makes each call, and writes to file descriptor 3 what was given and what
- * came back. Linked with --wrap for every function, so that the caller is as it is. kit/test/replay.js reads it.
+ * came back. Linked with --wrap for every function, so that the caller is as it is. kit/test/replay.js reads it. With HASHED defined it is
+ * not written: every 1,000 calls a hash of all so far is printed, by which host/test-targets.sh compares processors.
  *
  * A call is its name with a zero byte, the number that came back (8 bytes), how many arguments follow (1 byte), and these. A number is `n`
  * and 4 bytes. A slice is `s`, the width of an entry (1 byte), how many entries (4 bytes), whether it changed (1 byte), its bytes before
  * and, if it changed, its bytes afterwards. All numbers have their least significant byte first. */
 #include "krossvil.h"
 
+#include <inttypes.h>
 #include <stdio.h>
 #include <stdlib.h>
 #include <string.h>
@@ -22,15 +24,42 @@ struct argument {
 
 static struct argument arguments[MOST_ARGUMENTS];
 static unsigned argument_count;
-static FILE *out;
+
+#ifdef HASHED
+static uint64_t hash = 0xCBF29CE484222325u;
+
+static void mix(uint32_t number)
+{
+    hash = (hash ^ number) * 0x100000001B3u;
+}
 
 static void put(const void *bytes, size_t count)
 {
+    const uint8_t *b = bytes;
+    for (; count >= 4; count -= 4, b += 4)
+        mix(b[0] | (uint32_t)b[1] << 8 | (uint32_t)b[2] << 16 | (uint32_t)b[3] << 24);
+    for (; count > 0; count--)
+        mix(*b++);
+}
+
+static void call_ends(void)
+{
+    static uint32_t calls;
+    if (++calls % 1000 == 0)
+        printf("calls %" PRIu32 " hash %016" PRIX64 "\n", calls, hash);
+}
+#else
+static void put(const void *bytes, size_t count)
+{
+    static FILE *out;
     if (out == NULL && (out = fdopen(3, "wb")) == NULL)
         abort();
     if (count > 0 && fwrite(bytes, 1, count, out) != count)
         abort();
 }
+
+static void call_ends(void) {}
+#endif
 
 static void put_number(uint64_t number, unsigned bytes)
 {
@@ -90,6 +119,7 @@ static uint64_t came_back(const char *name, uint64_t number)
             put_slice(&arguments[k]);
     }
     argument_count = 0;
+    call_ends();
     return number;
 }
 

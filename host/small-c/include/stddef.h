@@ -1,0 +1,6 @@
+#ifndef STDDEF_H
+#define STDDEF_H
+typedef __SIZE_TYPE__ size_t;
+typedef __PTRDIFF_TYPE__ ptrdiff_t;
+#define NULL ((void *)0)
+#endif
