@@ -206,10 +206,11 @@ try_stack() {
         build_program "$folder" "$made" '-DWORDS="0"' "$root/host/stack.c" && run_program "$folder"
         add_counts "$folder/printed" $?
         grep WRONG "$folder/printed"
-        most_stack "$folder/printed" >"$folder/most"
+        { echo "bytes $target" && most_stack "$folder/printed"; } >"$folder/most"
+        if [ -e "$out/stack" ]; then join "$out/stack" "$folder/most"; else cat "$folder/most"; fi >"$out/stack.more"
+        mv "$out/stack.more" "$out/stack"
     done
-    { echo "bytes ${bare_targets[*]}" && join "$out"/{cortex-m3,cortex-m4hf}-stack/most | join - "$out/riscv32imc-stack/most"; } |
-        awk '{ printf "%-14s", $1; for (k = 2; k <= NF; k++) printf " %11s", $k; print "" }'
+    awk '{ printf "%-14s", $1; for (k = 2; k <= NF; k++) printf " %11s", $k; print "" }' "$out/stack"
 }
 
 rm -rf "$out"
