@@ -42,13 +42,13 @@ static void make_stimulus(size_t size)
     stimulus_len = (size_t)(b - stimulus) + 7;
 }
 
-/* The longest stamped journal: polls, each 65,535 after the one before; then the end. */
-static void make_stamped(void)
+/* Polls, each 65,535 after the one before, up to so many bytes; then the end. */
+static void make_stamped(size_t size)
 {
     uint16_t stamp = 0;
     uint8_t *b = stamped;
     memcpy(b, (uint8_t[]){ 0x10, 0, 1, 0 }, 4);
-    for (b += 4; (size_t)(b - stamped) + 11 <= sizeof stamped; b += 6) {
+    for (b += 4; (size_t)(b - stamped) + 11 <= size; b += 6) {
         stamp--;
         memcpy(b, (uint8_t[]){ 0x12, 0, 3, (uint8_t)(stamp >> 8), (uint8_t)stamp, 0 }, 6);
     }
@@ -172,6 +172,7 @@ static void call_on_own_stack(void (*call)(void))
 static int measure(const char *name, void (*call)(void), size_t promised)
 {
     size_t left = 0;
+    call_on_own_stack(call); /* at the first call memcpy and the like may still be looked up, which takes stack too */
     call_on_own_stack(call);
     while (left < sizeof stack && stack[left] == PAINT)
         left++;
@@ -180,17 +181,20 @@ static int measure(const char *name, void (*call)(void), size_t promised)
     return good;
 }
 
+/* What is promised goes by these lengths of what is read. */
+static const size_t run_stacks[] = { KROSSVIL_RUN_STACK_SHORT, KROSSVIL_RUN_STACK_MEDIUM, KROSSVIL_RUN_STACK };
+static const size_t stimulus_sizes[] = { 1792, 14336, KROSSVIL_STIMULUS_MAX }, stamped_sizes[] = { 1536, 12288, KROSSVIL_STAMPED_MAX };
+
 /* The twelve calls that take either kind of table: how many are good. */
 static int measure_on(const char *kind, const uint8_t *bytes, size_t len)
 {
-    static const size_t sizes[] = { 1000, 10000, KROSSVIL_STIMULUS_MAX };
     int good = 0;
     table = bytes;
     table_len = len;
     printf("on a table with %s:\n", kind);
     for (int k = 0; k < 3; k++) {
-        make_stimulus(sizes[k]);
-        good += measure("run", run, KROSSVIL_RUN_STACK);
+        make_stimulus(stimulus_sizes[k]);
+        good += measure("run", run, run_stacks[k]);
     }
     journal_len = krossvil_answer(answer, KROSSVIL_WRITTEN);
     good += measure("check_journal", check_journal, KROSSVIL_STACK);
@@ -215,8 +219,10 @@ int main(void)
     passed += measure("reaction_moves", reaction_moves, KROSSVIL_STACK);
     passed += measure("reaction_tight", reaction_tight, KROSSVIL_STACK);
     passed += measure("convert_table", convert_table, KROSSVIL_STACK);
-    make_stamped();
-    passed += measure("read_stamped", read_stamped, KROSSVIL_RUN_STACK);
-    printf("%d passed, %d failed\n", passed, 29 - passed);
-    return passed != 29;
+    for (int k = 0; k < 3; k++) {
+        make_stamped(stamped_sizes[k]);
+        passed += measure("read_stamped", read_stamped, run_stacks[k]);
+    }
+    printf("%d passed, %d failed\n", passed, 31 - passed);
+    return passed != 31;
 }

@@ -149,9 +149,12 @@ enum krossvil_refusal {
 #define KROSSVIL_SALVAGED_MAX 65531u  /* for krossvil_salvage, krossvil_run and krossvil_read_stamped */
 #define KROSSVIL_SHORTENED_MAX 49149u /* for krossvil_shorten; for krossvil_lengthen KROSSVIL_JOURNAL_MAX */
 
-#define KROSSVIL_RUN_STACK 80000u /* bytes of stack that are enough for krossvil_run and krossvil_read_stamped */
-#define KROSSVIL_LIVE_STACK 2048u /* and for krossvil_live and krossvil_watch */
-#define KROSSVIL_STACK 16000u     /* and for the other functions */
+/* Bytes of stack that are enough (measured). krossvil_run and krossvil_read_stamped need the more the longer what they read is. */
+#define KROSSVIL_RUN_STACK 80000u        /* for krossvil_run and krossvil_read_stamped, whatever they read */
+#define KROSSVIL_RUN_STACK_MEDIUM 24000u /* for these with a stimulus of at most 14,336 bytes, a stamped journal of at most 12,288 */
+#define KROSSVIL_RUN_STACK_SHORT 8000u   /* for these with a stimulus of at most 1,792 bytes, a stamped journal of at most 1,536 */
+#define KROSSVIL_LIVE_STACK 2048u        /* for krossvil_live and krossvil_watch */
+#define KROSSVIL_STACK 16000u            /* for the other functions */
 
 #define KROSSVIL_MOVES_MAX 32u  /* moves of one question */
 #define KROSSVIL_SUMS_MAX 1024u /* numbers, not bytes: so many sums are never too few */
