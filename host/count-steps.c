@@ -102,7 +102,7 @@ static void count_nothing(void) /* so that the count is seen to be right */
 {
     uint32_t value = TIMER1->value;
     __asm__ volatile(".rept 1000\n nop\n .endr");
-    print("1000 instructions ", instructions_since(value));
+    print("one thousand: ", instructions_since(value));
 }
 
 static void count_rest(void) /* what the controller does beside the call */
@@ -112,7 +112,7 @@ static void count_rest(void) /* what the controller does beside the call */
     next->size = KROSSVIL_RECORD_MAX;
     kept_switch();
     lines_send_record(1000000, kept_now()->record, kept_now()->size);
-    print("memory and line ", instructions_since(value));
+    print("memory and line: ", instructions_since(value));
 }
 
 static void count_stack(const char *text, uint32_t timers)
@@ -123,7 +123,7 @@ static void count_stack(const char *text, uint32_t timers)
     count_calls(text, 32, timers);
     while (*(volatile uint8_t *)at == PAINT)
         at++;
-    print("stack ", (uint32_t)(here - at));
+    print("stack: ", (uint32_t)(here - at));
 }
 
 _Noreturn static void leave(void)
@@ -141,10 +141,10 @@ int main(void)
     TIMER1->reload = UINT32_MAX;
     TIMER1->control = TIMER_RUNS;
     count_nothing();
-    count_calls("2x2 ", 2, 0);
-    count_calls("8x8 ", 8, 0);
-    count_stack("32x32 ", 0);
-    count_stack("32x32, 4 timers ", 4);
+    count_calls("2x2: ", 2, 0);
+    count_calls("8x8: ", 8, 0);
+    count_stack("32x32: ", 0);
+    count_stack("32x32, 4 timers: ", 4);
     count_rest();
     leave();
 }

@@ -4,8 +4,9 @@
  *
  *     sensor SCRIPT JOURNAL EVERY EMULATOR [WORD...]
  *
- * EVERY: after so many bytes from the board, more or less, it is reset; 0 for never. The emulator has its serial line at its standard input
- * and output, and its monitor at file descriptor 10. One line is printed, which says what was seen; the status is 0 if all is well. */
+ * EVERY: after so many bytes from the board, more or less, it is reset; 0 for never; -1 for a board that resets itself, of which the LEDs
+ * are not looked at. The emulator has its serial line at its standard input and output, and its monitor at file descriptor 10. One line is
+ * printed, which says what was seen; the status is 0 if all is well. */
 #define _XOPEN_SOURCE 700
 #include <poll.h>
 #include <signal.h>
@@ -27,6 +28,7 @@ static size_t scripted;
 static FILE *journal;
 static int to_board, from_board, monitor;
 static pid_t emulator;
+static long every;
 static struct {
     uint8_t bytes[RECORD_MAX];
     size_t at, size;
@@ -41,8 +43,8 @@ static void finish(const char *fault) /* null: all is well */
     waitpid(emulator, NULL, 0);
     if (fault)
         printf("%s: ", fault);
-    printf("%lu records, %lu sent again, %lu lines torn, %lu starts, %lu resets from outside, LEDs %u\n", records, repeated, torn, starts,
-           resets, leds);
+    printf("%lu records, %lu sent again, %lu lines torn, %lu starts, %lu resets from outside", records, repeated, torn, starts, resets);
+    printf(looks > 0 ? ", LEDs %u\n" : "\n", leds);
     exit(fclose(journal) != 0 || fault ? 1 : 0);
 }
 
@@ -125,10 +127,10 @@ static void hear_monitor(void) /* what it says before the LEDs are looked at is 
     }
 }
 
-static void reset_sometimes(long every)
+static void reset_sometimes(void)
 {
     static long left;
-    if (every == 0 || looks > 0 || --left > 0)
+    if (every <= 0 || looks > 0 || --left > 0)
         return;
     if (left == 0)
         reset_board();
@@ -161,7 +163,11 @@ static void keep(size_t at, const uint8_t *bytes, size_t size)
     } else {
         finish("a record is not in its place");
     }
-    if (bytes[0] == END && looks < 2)
+    if (bytes[0] != END)
+        return;
+    if (every < 0)
+        finish(NULL);
+    if (looks < 2)
         look_at_leds();
 }
 
@@ -217,6 +223,7 @@ int main(int count, char **words)
     char bytes[4096];
     if (count < 5 || !load_script(words[1]) || !(journal = fopen(words[2], "wb")) || !start_emulator(words + 4))
         return fprintf(stderr, "usage: sensor SCRIPT JOURNAL EVERY EMULATOR [WORD...]\n"), 2;
+    every = atol(words[3]);
     struct pollfd both[2] = { { .fd = from_board, .events = POLLIN }, { .fd = monitor, .events = POLLIN } };
     while (poll(both, 2, PATIENCE) > 0) {
         if (both[1].revents != 0)
@@ -224,7 +231,7 @@ int main(int count, char **words)
         ssize_t size = both[0].revents != 0 ? read(from_board, bytes, sizeof bytes) : 0;
         for (ssize_t k = 0; k < size; k++) {
             hear_byte(bytes[k]);
-            reset_sometimes(atol(words[3]));
+            reset_sometimes();
         }
     }
     finish("the board is silent");

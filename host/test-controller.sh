@@ -39,7 +39,8 @@ install_missing || stop 'what is missing could not be installed'
 command -v qemu-system-arm >/dev/null || install_packages qemu-system-arm || stop 'qemu-system-arm could not be installed'
 rm -rf "$out"
 mkdir -p "$out" || stop "could not make $out"
-"${RT-rt}" staticlib krossvil >"$out/log" || stop 'rt staticlib krossvil failed'
+kit/native/build cortex-m3 || stop 'the library for the board was not built'
+[ -s target/staticlib/libkrossvil.a ] || "${RT-rt}" staticlib krossvil || stop 'rt staticlib krossvil failed' # else the build above has left it
 
 for program in examples/live.c examples/watch.c host/run-stimulus.c; do
     "$compiler" -std=c11 -O2 -Wall -Wextra -Werror -Iinclude "$program" target/staticlib/libkrossvil.a "${link[@]}" \
@@ -47,12 +48,14 @@ for program in examples/live.c examples/watch.c host/run-stimulus.c; do
 done
 "$own" -std=c11 -O2 -Wall -Wextra -Werror host/sensor.c -o "$out/sensor" || stop 'sensor did not build'
 
-# An instruction takes 128 ns, a unit is 1 ms. The emulator's clock counts instructions, so that how busy this machine is makes no difference.
-board=(qemu-system-arm -M mps2-an385 -nic none -display none -icount "shift=7,sleep=off" -serial stdio
+# An instruction takes 1,024 ns here, and a unit of the controller 10 ms. The emulator's clock counts instructions, so that it makes no
+# difference how busy this machine is.
+board=(qemu-system-arm -M mps2-an385 -nodefaults -display none -icount "shift=10,sleep=off" -serial stdio
     -chardev "socket,id=monitor,fd=10" -mon chardev=monitor)
 
 build() { # NAME SOURCES PACE [WORD...]: the firmware of this name; words are for the link
-    SOURCES=$2 LINK=${*:4} examples/controller/build "$table" "$3" "$out/$1" >"$out/$1.built" 2>&1 || { cat "$out/$1.built"; stop "$1 did not build"; }
+    SOURCES=$2 LINK=${*:4} examples/controller/build "$table" "$3" "$out/$1" >"$out/$1.built" 2>&1 ||
+        { cat "$out/$1.built"; stop "$1 did not build"; }
 }
 
 with() { # NAME FILE...: a copy of the sources with these added
@@ -65,12 +68,12 @@ board_runs() { # NAME SCRIPT EVERY [WORD...]: what was seen is left in NAME.seen
         >"$out/$1.seen" 2>"$out/$1.said"
 }
 
-same_as() { # NAME JOURNAL WHAT: the run came to its end, wrote this journal, and the LEDs show its last output
+same_as() { # NAME JOURNAL WHAT [no-leds]: the run came to its end, wrote this journal, and the LEDs show its last output
     local status=$? line
     line=$("${run[@]}" "$out/watch" "$table" <"$out/$1.journal")
     echo "        $(cat "$out/$1.seen"); $line"
     [ "$status" -eq 0 ] && cmp "$out/$1.journal" "$2" && [[ $line =~ ^accepted.*\ output=([0-9]+)\  ]] &&
-        [[ $(cat "$out/$1.seen") == *", LEDs ${BASH_REMATCH[1]}" ]]
+        { [[ $(cat "$out/$1.seen") == *", LEDs ${BASH_REMATCH[1]}" ]] || [ "${4-}" = no-leds ]; }
     result $? "$3"
 }
 
@@ -96,7 +99,7 @@ by_live() { # NAME: its lines are the sensor's; the journal is that of krossvil_
 # ---- Left alone
 
 sensor_lines 20000 1 >"$out/long.lines" # 10,000 cycles
-sensor_lines 2000 2 >"$out/short.lines"
+sensor_lines 1200 2 >"$out/short.lines"
 by_live long
 by_live short
 printf 'input 0 0\ninput 1 1\ninput 3 0\nend 12\n' >"$out/classroom.script"
@@ -129,9 +132,8 @@ result $? 'it was reset more than 100 times, in records and between them'
 unsteady=(--wrap=main --wrap=lines_next)
 with unsteady host/unsteady.c
 build unsteady "$out/unsteady.sources" "$every_2" "${unsteady[@]}"
-board_runs unsteady short 0
-sed -i 's/LEDs.*/LEDs 1/' "$out/unsteady.seen" # it goes on to reset itself when the run has ended: they may be off just then
-same_as unsteady "$out/short.expected" '1,000 cycles, reset from one instruction to the next'
+board_runs unsteady short -1
+same_as unsteady "$out/short.expected" '600 cycles, reset from one instruction to the next' no-leds
 
 # After power-on the RAM has any bytes. The emulator puts them back at each reset, so that the last one, after the end, begins anew.
 any=(-device "loader,file=target/staticlib/libkrossvil.a,addr=0x20000000,force-raw=on")
@@ -165,7 +167,7 @@ seed record-doubled controller.c 's/^ *send_last_record(); .*/lines_send_record(
 board_runs record-doubled long 1000
 noticed record-doubled "$out/long.expected"
 seed one-memory kept.c 's/1 - current/current/' host/unsteady.c
-board_runs one-memory long 0
+board_runs one-memory long -1
 noticed one-memory "$out/long.expected"
 seed old-line lines.c 's/line.time >= from/line.time + 1 > 0/'
 board_runs old-line long 1000
@@ -179,4 +181,20 @@ noticed output-not-shown "$out/short.expected"
 seed no-mark kept.c 's/marked == mark/mark != 0/'
 board_runs no-mark short 0 "${any[@]}"
 noticed no-mark /dev/null
+
+# ---- What a step takes: as docs/CONTROLLER.md says, within a twentieth
+
+with count host/count-steps.c
+rm "$out/count.sources/controller.c"
+build count "$out/count.sources" "$every_2"
+timeout 60 qemu-system-arm -M mps2-an385 -nodefaults -display none -icount shift=6 -semihosting -serial stdio -kernel "$out/count/controller.elf" \
+    </dev/null >"$out/counted" 2>"$out/count.said"
+result $? 'the instructions are counted'
+sed -n 's/^ *FLASH: *\([0-9]*\) B.*/flash: \1/p; s/^ *RAM: *\([0-9]*\) B.*/RAM: \1/p' "$out/controller.built" >>"$out/counted"
+for what in 'one thousand' 2x2 8x8 32x32 '32x32, 4 timers' 'memory and line' stack flash RAM; do
+    counted=$(sed -n "s/^$what: //p" "$out/counted" | sort -n | tail -n 1)
+    page=$(sed -n "s/^| $what | \([0-9,]*\) |.*/\1/p" docs/CONTROLLER.md | tr -d ,)
+    [ -n "$counted" ] && [ -n "$page" ] && [ $((20 * counted)) -le $((21 * page)) ] && [ $((20 * page)) -le $((21 * counted)) ]
+    result $? "$what: $counted, the page says $page"
+done
 finish

@@ -39,4 +39,11 @@ static inline void sleep_while(const volatile uint32_t *word, uint32_t was)
     __asm__ volatile("cpsie i" ::: "memory");
 }
 
+_Noreturn static inline void halt(void)
+{
+    TIMER0->control = 0;
+    for (;;)
+        __asm__ volatile("wfi");
+}
+
 #endif

@@ -7,7 +7,7 @@
 #include "lines.h"
 #include "table.h" /* made by the script build: table, PACE and MARK */
 
-enum { UNITS_PER_SECOND = 1000, UNIT = CLOCK_HZ / UNITS_PER_SECOND, REFUSED_LED = 0x80 };
+enum { UNITS_PER_SECOND = 100, UNIT = CLOCK_HZ / UNITS_PER_SECOND, REFUSED_LED = 0x80 };
 
 static volatile uint32_t known_until; /* up to this time it is known what the sensor says; the clock does not pass it */
 
@@ -16,13 +16,6 @@ void timer0(void)
     TIMER0->interrupt = 1; /* clears it */
     if (kept_clock < known_until)
         kept_clock = kept_clock + 1;
-}
-
-_Noreturn static void halt(void)
-{
-    TIMER0->control = 0;
-    for (;;)
-        __asm__ volatile("wfi");
 }
 
 static uint32_t live(uint32_t place) { return kept_now()->live[place]; }

@@ -1,7 +1,7 @@
 #include "lines.h"
 #include "board.h"
 
-enum { BAUD = 115200, LONGEST = 24 };
+enum { BAUD = 460800, LONGEST = 24 };
 
 static void send(char byte)
 {
@@ -81,7 +81,7 @@ static int understood(const char *text, struct line *line)
     return rest && *rest == '\0';
 }
 
-/* A line without its end, or an empty text for one that is too long. */
+/* A line without its end; empty ones are passed over, and one that is too long is spoilt. */
 static void receive(char *text)
 {
     uint32_t count = 0;
@@ -89,13 +89,16 @@ static void receive(char *text)
         while (!(UART0->state & UART_RECEIVED))
             ;
         char byte = (char)UART0->data;
-        if (byte == '\n')
-            break;
-        if (count < LONGEST)
-            text[count] = byte;
-        count += count <= LONGEST;
+        if (byte == '\n' || byte == '\r') {
+            if (count > 0)
+                break;
+        } else if (count < LONGEST) {
+            text[count++] = byte;
+        } else {
+            text[0] = '?';
+        }
     }
-    text[count <= LONGEST ? count : 0] = '\0';
+    text[count] = '\0';
 }
 
 static void ask(uint32_t from)
