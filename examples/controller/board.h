@@ -23,7 +23,7 @@ enum {
     TIMER0_INTERRUPT = 8, /* its number */
     UART_SENDS = 1,       /* control */
     UART_RECEIVES = 2,
-    UART_SENDING = 1, /* state: the byte before has not gone out */
+    UART_SENDING = 1, /* state: a byte waits to go out */
     UART_RECEIVED = 2,
 };
 

@@ -3,11 +3,12 @@
 
 enum { BAUD = 460800, LONGEST = 24 };
 
+/* When it returns, all bytes before this one are out: of a record that was sent no more than the newline can be lost in a reset. */
 static void send(char byte)
 {
+    UART0->data = (uint8_t)byte;
     while (UART0->state & UART_SENDING)
         ;
-    UART0->data = (uint8_t)byte;
 }
 
 static void send_text(const char *text)

@@ -18,6 +18,8 @@ __attribute__((section(".vectors"), used)) static const void *const vectors[16 +
     &stack_top, reset, fault, fault, fault, fault, fault, [16 + TIMER0_INTERRUPT] = timer0,
 };
 
+typedef uint32_t __attribute__((may_alias)) word;
+
 /* By words where both ends allow it: the controller copies its memory at each event. */
 void *memcpy(void *to, const void *from, size_t count)
 {
@@ -25,7 +27,7 @@ void *memcpy(void *to, const void *from, size_t count)
     const uint8_t *f = from;
     if (((uintptr_t)t | (uintptr_t)f) % 4 == 0)
         for (; count >= 4; count -= 4, t += 4, f += 4)
-            *(uint32_t *)t = *(const uint32_t *)f;
+            *(word *)t = *(const word *)f;
     while (count-- > 0)
         *t++ = *f++;
     return to;
