@@ -28,3 +28,17 @@ install_compiler() { # PROCESSOR
     fi
     echo 'int main(void) { return 0; }' | "$(compiler_for "$1")" -xc - -o /dev/null 2>/dev/null || install_packages "$name" "$library"
 }
+
+# The file for pkg-config, for a library and a header that stand in these folders.
+pkg_config_file() { # LIBDIR INCLUDEDIR
+    cat <<END
+libdir=$1
+includedir=$2
+
+Name: krossvil
+Description: check, run and time polling controllers
+Version: $(sed -n 's/^#define KROSSVIL_VERSION "\(.*\)"$/\1/p' include/krossvil.h)
+Libs: -L\${libdir} -lkrossvil
+Cflags: -I\${includedir}
+END
+}

@@ -4,8 +4,8 @@
 
 Each call is made twice: of the shared object, with the slices just as they were lent, and guards around each; and of the module's function,
 as anybody calls it. What comes back and every byte must be the same. The functions always lend enough, so that a call from C which was
-refused because too little was lent is only made of the shared object. It fails if anything differs, if fewer than LEAST calls were made
-of the functions, or if one of them was not seen to answer and to refuse.
+refused because too little was lent is only made of the shared object. It fails if anything differs, and then ends soon; if fewer than LEAST
+calls were made of the functions; or if one of them was not seen to answer and to refuse.
 """
 
 import ctypes
@@ -157,11 +157,13 @@ def replay(path: str, least: int) -> bool:
                 seen[call.name, "refused" if call.code else "answered"] += 1
             if differs is not None:
                 differences.append(f"{call.name}: C gives {said(call.code)}, {differs}"[:150])
+            if len(differences) == 5:
+                break
     for name in FUNCTIONS:
         print(f"{name}: {seen[name, 'of the object']} calls of the object, {seen[name, 'answered']} answers and {seen[name, 'refused']} refusals")
     made = sum(count for (_, how), count in seen.items() if how != "of the object")
     unseen = [name for name in FUNCTIONS if not seen[name, "answered"] or not seen[name, "refused"]]
-    print(*differences[:5], f"{made} calls of functions, {len(differences)} differ", sep="\n")
+    print(*differences, f"{made} calls of functions, {len(differences)} differ", sep="\n")
     if made < least or unseen:
         print(f"fewer than {least} calls, or not seen to answer and to refuse: {' '.join(unseen)}")
     return not differences and not unseen and made >= least
