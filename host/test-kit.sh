@@ -92,7 +92,7 @@ first_command() {
 
 install_tools
 build 'the first command' first_command
-build 'the package' kit/deb/build
+build 'the package' kit/deb/build krossvil
 part kit/test/compare
 part kit/test/run
 part kit/deb/try

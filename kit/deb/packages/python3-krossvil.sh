@@ -3,11 +3,11 @@
 
 fill() {
     local module=$root/usr/lib/python3/dist-packages/krossvil
-    mkdir -p "$module" "$doc/examples"
+    mkdir -p "$module" "$doc/examples" "$doc/docs"
     cp kit/python/krossvil/{*.py,py.typed} "$module"
     cp kit/deb/python.md "$doc/README.md"
+    cp docs/PYTHON.md "$doc/docs" # where the notebook's link leads
     cp -r examples/season.ipynb examples/season examples/classroom examples/changed-verdict "$doc/examples"
-    find "$doc/examples" -type f ! -name '*.bin' ! -name '*.ipynb' -delete
     maintainer_script postinst configure 'py3compile -p python3-krossvil'
     maintainer_script prerm remove 'py3clean -p python3-krossvil'
 }

@@ -43,14 +43,13 @@ def library() -> ctypes.CDLL:
     path = _path()
     try:
         loaded = ctypes.CDLL(path)
-    except OSError as error:
-        raise OSError(
-            f"{path} cannot be loaded ({error}): install the package libkrossvil-dev, or name the file in KROSSVIL_LIBRARY"
-        ) from None
-    for name, types in FUNCTIONS.items():
-        function = getattr(loaded, f"krossvil_{name}")
-        function.restype = ctypes.c_uint64
-        function.argtypes = [kind for each in types for kind in _TYPES[each]]
+        for name, types in FUNCTIONS.items():
+            function = getattr(loaded, f"krossvil_{name}")
+            function.restype = ctypes.c_uint64
+            function.argtypes = [kind for each in types for kind in _TYPES[each]]
+    except (OSError, AttributeError) as error:
+        words = f"install the package libkrossvil-dev, version {VERSION}, or name the file in KROSSVIL_LIBRARY"
+        raise OSError(f"{path} cannot be used ({error}): {words}") from None
     return loaded
 
 

@@ -6,6 +6,8 @@ from ._header import MEANINGS
 class Refused(Exception):
     """The library's refusal: its number, and the place, as docs/RULES.md gives them."""
 
+    __module__ = "krossvil"  # where it is public, for tracebacks
+
     def __init__(self, number: int, place: int) -> None:
         super().__init__(number, place)
         self.number = number

@@ -7,6 +7,7 @@ import ast
 import copy
 import ctypes
 import dataclasses
+import doctest
 import inspect
 import json
 import os
@@ -371,17 +372,27 @@ class Sources(Trying):
         made = subprocess.run(["node", MODULE / "make", "--print"], capture_output=True, text=True, check=True).stdout
         self.assertEqual(made, Path(_header.__file__).read_text())
 
+    def test_the_page_shows_what_comes(self):
+        kept = os.getcwd()
+        os.chdir(ROOT)
+        try:
+            failed, tried = doctest.testfile(str(ROOT / "docs" / "PYTHON.md"), module_relative=False)
+        finally:
+            os.chdir(kept)
+        self.assertEqual((failed, tried > 10), (0, True))
+
     def test_python_3_9_can_read_it(self):
         files = list(Path(krossvil.__file__).parent.glob("*.py"))
         self.assertGreater(len(files), 5)
         for file in files:
             ast.parse(file.read_text(), feature_version=(3, 9))
 
-    def test_a_library_that_is_not_there_is_named_in_a_sentence(self):
-        asks = "import krossvil; krossvil.check_table(b'')"
-        environment = {**os.environ, "KROSSVIL_LIBRARY": "/none/libkrossvil.so"}
-        said = subprocess.run([sys.executable, "-c", asks], capture_output=True, text=True, env=environment).stderr
-        self.assertRegex(said.splitlines()[-1], "^OSError: /none/libkrossvil.so cannot be loaded .*install the package libkrossvil-dev")
+    def test_a_library_that_is_not_there_or_another_is_named_in_a_sentence(self):
+        for path in ("/none/libkrossvil.so", "libc.so.6"):
+            environment = {**os.environ, "KROSSVIL_LIBRARY": path}
+            asks = "import krossvil; krossvil.check_table(b'')"
+            said = subprocess.run([sys.executable, "-c", asks], capture_output=True, text=True, env=environment).stderr
+            self.assertRegex(said.splitlines()[-1], f"^OSError: {path} cannot be used .*install the package libkrossvil-dev, version 1")
 
 
 if __name__ == "__main__":

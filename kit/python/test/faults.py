@@ -54,7 +54,9 @@ FAULTS: List[Tuple[str, str, str, str]] = [
     ("_lending.py", "    return view\n", "    return view[:16]\n", "replay"),
     ("_lending.py", "< 2**32", "< 2**33", "Sets.test_numbers_that_do_not_fit_are_turned_down_and_not_cut"),
     ("_lending.py", "< 2**32", "< 2**16", "Sets.test_numbers_that_fit_are_judged_by_the_library"),
+    ("_library.py", "(OSError, AttributeError)", "OSError", "Sources.test_a_library_that_is_not_there_or_another_is_named_in_a_sentence"),
     ("_answers.py", "@dataclass(frozen=True)\nclass Added:", "@dataclass\nclass Added:", "Functions.test_answers_cannot_be_changed"),
+    ("_refused.py", "__module__ = \"krossvil\"", "__module__ = \"krossvil._refused\"", "Sources.test_the_page_shows_what_comes"),
     ("_refused.py", "super().__init__(number, place)", "super().__init__(number)", "Refusals.test_a_refusal_can_be_sent_to_another_process"),
     ("_header.py", '"a hold is too long"', '"a hold is long"', "Sources.test_what_is_made_from_header_and_kit_is_as_they_are"),
     ("_records.py", "place, before = end, record.time", "place, before = end, 0", "Records.test_the_records_are_those_that_the_kit_finds"),
@@ -68,7 +70,7 @@ FAULTS: List[Tuple[str, str, str, str]] = [
 ]
 
 # What shows that a test was not tried: then nothing was noticed.
-BROKEN = re.compile(r"SyntaxError|NameError|has no attribute '(test_|[A-Z])|cannot be loaded|No module named")
+BROKEN = re.compile(r"SyntaxError|NameError|has no attribute '(test_|[A-Z])|^OSError: .* cannot be used|No module named", re.MULTILINE)
 
 
 def noticed(folder: Path, calls: str, test: str) -> str:
