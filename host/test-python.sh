@@ -14,24 +14,8 @@ least=10000 # calls of the module's functions
 python=/usr/bin/python3
 tests=kit/python/test
 out=target/python
-passed=0
-failed=0
-
-finish() {
-    printf '%s passed, %s failed\n' "$passed" "$failed"
-    [ "$failed" -eq 0 ]
-    exit
-}
-
-result() { # WHAT: by the status of the command before
-    if [ "$?" -eq 0 ]; then
-        passed=$((passed + 1))
-        echo "ok      $1"
-    else
-        failed=$((failed + 1))
-        echo "FAILED  $1"
-    fi
-}
+# shellcheck source=host/counting.sh
+. host/counting.sh
 
 stop() { # MESSAGE: nothing more can be tried
     echo "FAILED  $1"
@@ -101,7 +85,8 @@ result 'the shared object and the functions of the module give the same'
 
 gcc -shared -fPIC -O2 -Wall -Wextra -Werror -Iinclude "$tests/changed.c" -L"$folder" -Wl,-rpath,"$folder",--no-as-needed -lkrossvil \
     -o "$out/changed.so" || stop 'the changed library did not build'
-KROSSVIL_LIBRARY=$PWD/$out/changed.so "$python" "$tests/replay.py" "$out/calls" 0 | grep -qx '.*check_journal: C gives 28 at .*, the object gives 27 at .*'
+KROSSVIL_LIBRARY=$PWD/$out/changed.so "$python" "$tests/replay.py" "$out/calls" 0 |
+    grep -qx 'check_journal: C gives 28 at .*, the object gives 27 at .*'
 result 'a shared object that says 27 for 28 is noticed'
 
 echo '== faults'

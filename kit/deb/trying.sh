@@ -4,26 +4,10 @@
 # shellcheck shell=bash disable=SC2034,SC2154
 
 suite=bookworm
-passed=0
-failed=0
+# shellcheck source=host/counting.sh
+. host/counting.sh
 room=$(mktemp -d) || exit 1
 trap 'rm -rf "$room"' EXIT
-
-result() { # WHAT: by the status of the command before
-    if [ "$?" -eq 0 ]; then
-        passed=$((passed + 1))
-        echo "ok      $1"
-    else
-        failed=$((failed + 1))
-        echo "FAILED  $1"
-    fi
-}
-
-finish() {
-    printf '%s passed, %s failed\n' "$passed" "$failed"
-    [ "$failed" -eq 0 ]
-    exit
-}
 
 in_system() { chroot "$root" "$@"; }
 

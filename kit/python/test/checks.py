@@ -28,6 +28,10 @@ MODULE = ROOT / "kit" / "python"
 NO_BYTES = [None, 5, 1.5, True, "text", [1, 2], {1}, object(), array("I", [1]), array("h", [1]), memoryview(bytes(4)).cast("B", [2, 2])]
 
 
+class Own(bytes):
+    """A kind of bytes that somebody else has made."""
+
+
 class Trying(unittest.TestCase):
     def refuses(self, number, place, name, *arguments):
         with self.assertRaises(Refused) as raised:
@@ -89,8 +93,8 @@ class Bytes(Trying):
             data = arguments()[place]
             spread = bytearray(2 * len(data))
             spread[::2] = data
-            kinds = [bytearray(data), memoryview(data), memoryview(spread)[::2], memoryview(data[::-1])[::-1], array("B", data), type("Own", (bytes,), {})(data)]
-            kinds += [(ctypes.c_ubyte * len(data))(*data), memoryview(data).cast("c"), memoryview(data).cast("b")]
+            kinds = [bytearray(data), memoryview(data), memoryview(spread)[::2], memoryview(data[::-1])[::-1], array("B", data)]
+            kinds += [(ctypes.c_ubyte * len(data))(*data), memoryview(data).cast("c"), memoryview(data).cast("b"), Own(data)]
             for kind in kinds:
                 given = arguments()
                 given[place] = kind
@@ -384,8 +388,14 @@ class Sources(Trying):
     def test_python_3_9_can_read_it(self):
         files = list(Path(krossvil.__file__).parent.glob("*.py"))
         self.assertGreater(len(files), 5)
-        for file in files:
+        self.assertEqual([unread for unread in map(self.why_unread, files) if unread], [])
+
+    def why_unread(self, file):
+        try:
             ast.parse(file.read_text(), feature_version=(3, 9))
+        except SyntaxError as error:
+            return f"{file.name}: {error}"
+        return None
 
     def test_a_library_that_is_not_there_or_another_is_named_in_a_sentence(self):
         for path in ("/none/libkrossvil.so", "libc.so.6"):
