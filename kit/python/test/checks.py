@@ -21,7 +21,8 @@ from array import array
 from pathlib import Path
 
 import krossvil
-from given import CALLS, EVENT, JOURNAL, OPENING, ROOT, SHORT, STAMPED, STIMULUS, TABLE, call, example, new_memory, new_report, with_each_bytes
+from given import CALLS, EVENT, JOURNAL, OPENING, ROOT, SHORT, STAMPED, STIMULUS, TABLE
+from given import call, example, journal_of, new_memory, with_each_bytes
 from krossvil import LiveRun, Record, Refused, Report, _header
 
 MODULE = ROOT / "kit" / "python"
@@ -67,11 +68,16 @@ class Functions(Trying):
 
     def test_several_threads_may_call(self):
         wrong = []
+        journals = [journal_of(cycles) for cycles in (2500, 2600, 2700)]
+        together = threading.Barrier(len(journals))
 
-        def work(journal, wanted):
-            wrong.extend(1 for _ in range(200) if krossvil.salvage(TABLE, journal).kept != wanted)
+        def work(journal):
+            for _ in range(500):  # long journals, and each turn begun at the same time: the calls do overlap
+                together.wait()
+                if krossvil.salvage(TABLE, journal).data != journal:
+                    wrong.append(len(journal))
 
-        threads = [threading.Thread(target=work, args=pair) for pair in ((JOURNAL, 123), (JOURNAL[:113], 92), (JOURNAL[:50], 36))]
+        threads = [threading.Thread(target=work, args=[journal]) for journal in journals]
         for thread in threads:
             thread.start()
         for thread in threads:

@@ -39,6 +39,13 @@ CALLS: Dict[str, Callable[[], List[Any]]] = {
 }
 
 
+def journal_of(cycles: int) -> bytes:
+    """A run of so many cycles, each of one unit, under the classroom's table."""
+    turns = [krossvil.Record(kind, time) for time in range(1, cycles + 1) for kind in ("poll", "test", "tick")]
+    events = [krossvil.Record("input", value=0), *turns, krossvil.Record("end", cycles)]
+    return krossvil.run(TABLE, krossvil.journal(events, "stimulus")).data
+
+
 def new_report(length: int = REPORT_MAX) -> "array[int]":
     return array("Q", [0] * length)
 
