@@ -50,7 +50,7 @@ lacking() { # packages that are not here
         command -v "${each%%:*}" >/dev/null || echo "${each#*:}"
     done
     for each in pandas matplotlib; do
-        "$python" -c "import importlib.util as u, sys; sys.exit(u.find_spec('$each') is None)" 2>/dev/null || echo "python3-$each"
+        "$python" -c "import importlib.util, sys; sys.exit(not importlib.util.find_spec('$each').origin)" 2>/dev/null || echo "python3-$each"
     done
 }
 
