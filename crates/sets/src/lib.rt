@@ -44,13 +44,12 @@ pub fn meet(a: u32, b: u32) -> bool
     a & b != 0
 }
 
-// The sets whose members are below n are the numbers below this one. With n = 32 every bit may be used. Made from above: for a test against
-// 1 << n the compiler shifts what is tested, each time.
+// The sets whose members are below n are the numbers below this one. With n = 32 every bit may be used.
 pub fn set_limit(n: u32) -> u64
     requires { ⌜ n ≤ 32 ⌝ }
     ensures { λ r. ⌜ r ≡ 2 ^ n ⌝ }
 {
-    4294967296u64 >> (32 - n)
+    1u64 << n
 }
 
 // Whether every member is below n: as many members are below n as there are.
