@@ -1,17 +1,18 @@
 -- A field of entries, written and read: entries of one byte, and entries of four.
 use mathlib.Core.Path.{_≡_, refl, sym, _∙_}
 use mathlib.Core.List.{List, [], _∷_, _++_}
-use mathlib.Core.Bool.{Bool, true, false, _&&_}
+use mathlib.Core.Bool.{Bool, true, false}
 use Prim.Native.Nat.{ℕ, zero, suc, _+_, _*_, _<_, _≤_}
 use native.Mathlib.Nat.{not-suc-le-zero}
 use native.Mathlib.Omega.{arith}
-use borrow.Author.Tests.{ltb-true, ltb-false, eq-eqb}
+use borrow.Author.Tests.{ltb-true, ltb-false}
 use lib.ListN.{length, getD, take, drop, List·getD-append}
 use lib.Seq.{ext-getD, getD-take, length-take-le, take-add, drop-drop, take-at}
-use Rattle.wire.specs.Choice.{_<?_, _=?_}
+use Rattle.wire.specs.Choice.{_<?_}
 use Rattle.wire.specs.Field.{byteAt, number32At}
 use Rattle.wire.specs.Encode.{Bytes, field}
-use Rattle.wire.proofs.Laws.{WholeAt, whole-is}
+use Rattle.wire.proofs.Laws.{WholeAt}
+use Rattle.wire.proofs.Standing.{stands-true}
 use Rattle.wire.proofs.Bytes.{byte-written, rest-written, number-written, field-written, byte-read, number-read, field-read}
 use Rattle.table.specs.declared.Answer.{Answer}
 use Rattle.table.specs.declared.Answer.the-variants.{Passes}
@@ -19,8 +20,8 @@ use Rattle.table.specs.Entries.{entriesFrom, values, filledTo, zeros}
 use Rattle.table.specs.Check.{fieldAnswer, rowAnswer, below, byteEntry, wordEntry}
 use Rattle.table.specs.Table.{Uses}
 use Rattle.table.specs.Encode.{words}
-use Rattle.table.proofs.Answers.{holds, goes-on}
-use Rattle.table.proofs.Rows.{is-whole, is-below}
+use Rattle.table.proofs.Answers.{goes-on}
+use Rattle.table.proofs.Rows.{stands-as-expected, is-below}
 use Rattle.table.proofs.Words.{length-words, words-append}
 use Rattle.table.proofs.Values.{length-values, getD-filled, filled-uses}
 
@@ -80,9 +81,7 @@ module _ (s rest array : List ℕ) (at tag n : ℕ) (room : n ≤ length array) 
       }
 
 pub field-passes : (s : List ℕ) (at tag size : ℕ) → WholeAt s at tag size → fieldAnswer s at tag size ≡ Passes
-field-passes s at tag size whole =
-    let same : ((tag =? tag) && (size =? size)) ≡ true = rw (eq-eqb tag tag refl, eq-eqb size size refl) in
-    sym (is-whole s at tag size _ (whole-is s at tag size whole) tag size refl Passes (sym (holds _ same)))
+field-passes s at tag size whole = sym (stands-as-expected s at tag size (stands-true size tag tag s at tag whole (omega arith) (omega arith)))
 
 each-pass : (entry : ℕ → Answer) (n i : ℕ) → ((k : ℕ) → k < i + n → entry k ≡ Passes) → Passes ≡ entriesFrom entry n i
 unfolding entriesFrom
