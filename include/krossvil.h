@@ -5,8 +5,9 @@
  * docs/RULES.md has all the rules in words.
  *
  * Link with libkrossvil.a, which there is for several processors: docs/C.md names them. The functions keep no state, allocate nothing, call
- * only memcpy and memset, and never stop the program: each ends with an answer on any bytes. So they may be called from several threads at
- * once, as long as no thread writes to a slice that another call was given. How much stack they need is below; that is measured, not proved.
+ * only memcpy and memset (for armv7-linux a division too), and never stop the program: each ends with an answer on any bytes. So they may
+ * be called from several threads at once, as long as no thread writes to a slice that another call was given. How much stack they need is
+ * below; that is measured, not proved.
  *
  * Slices. A slice is a pointer and the number of bytes at it, which has 64 bits on every processor. The pointer is never null, not even if
  * the number is 0, and a slice that a function writes to (without const) shares no byte with another slice of the same call. Three slices

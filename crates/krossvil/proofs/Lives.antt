@@ -7,17 +7,16 @@ use native.Mathlib.Omega.{arith}
 use borrow.Author.Tests.{lt-ltb, le-ltb, ltb-true, ltb-false}
 use types.Run.{OneOf, miss}
 use denote.Enum.Declared.{tagOf}
-use lib.ListN.{length, getD, take, drop}
+use lib.ListN.{length, take}
 use lib.Seq.{take-length}
 use Rattle.wire.specs.Choice.{_<?_, _=?_, if_then_else_}
 use Rattle.wire.proofs.Apart.{apart}
-use Rattle.wire.specs.Made.{Made, refused, made, answerIn, bufferIn}
-use Rattle.wire.specs.Reply.{Reply, gives, refuses, numberIn, placeIn, valuesIn}
+use Rattle.wire.specs.Made.{Made, refused, made, answerIn}
+use Rattle.wire.specs.Reply.{Reply, gives, refuses, valuesIn}
 use Rattle.table.specs.declared.Table.{Table}
 use Rattle.table.specs.Check.{tableAnswer, tableIn}
 use Rattle.table.proofs.Under.{under-either}
 use Rattle.records.specs.declared.Record.{Record}
-use Rattle.records.specs.declared.Record.the-variants.{Change, Poll, Test, Tick, End}
 use Rattle.records.specs.declared.Opening.{Opening}
 use Rattle.records.specs.declared.Opening.the-variants as opening
 use Rattle.records.specs.declared.Read.{Read}
@@ -46,12 +45,12 @@ use Rattle.live.specs.Memory.{memoryLength, stageIn, progressIn, firstOut}
 use Rattle.live.specs.Live.{alone, openedBy, wentOn, recordJudged, fieldJudged, memoryJudged, judgedOf, liveMade, liveOf, liveMemory, keptAfter, keptIf, watchedBy, watchOf, watchMemory}
 use Rattle.live.proofs.Live as LiveT
 use Rattle.live.proofs.Watched as WatchedT
-use Rattle.krossvil.specs.Host.{told, codeOf, bufferAfter, madeTold, liveTold, liveKeeps, watchTold, watchKeeps}
+use Rattle.krossvil.specs.Host.{told, bufferAfter, madeTold, liveKeeps, watchKeeps}
 use Rattle.krossvil.specs.Small.{Fits, roomBeside, Refusing}
 use Rattle.krossvil.proofs.TablePlaces.{table-fits}
 use Rattle.krossvil.proofs.Places.{Refuses, plain, of-record, of-table}
 use Rattle.krossvil.proofs.Outcomes.{told-fits}
-use Rattle.krossvil.proofs.Writers.{Writer, writer, Tells, Gives, Small, no-change, on-success, on-30, told-short}
+use Rattle.krossvil.proofs.Writers.{Writer, writer, Tells, Gives, no-change, on-success, on-30, told-short}
 
 -- ---- What is refused fits
 

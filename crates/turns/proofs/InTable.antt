@@ -1,18 +1,17 @@
 -- What a table in bytes that passed says of timers, and what is known of a machine in its range.
-use mathlib.Core.Path.{_≡_, refl, sym, ap, _∙_}
+use mathlib.Core.Path.{_≡_, refl, sym, _∙_}
 use mathlib.Core.List.{List}
-use mathlib.Core.Bool.{true, false}
+use mathlib.Core.Bool.{true}
 use Prim.Native.Nat.{ℕ, _<_, _≤_, max}
 use native.Mathlib.Omega.{arith}
 use Rattle.sets.proofs.Bits.{none-in-empty}
-use Rattle.table.specs.declared.Table.{Table}
 use Rattle.table.specs.declared.Answer.the-variants.{Passes}
 use Rattle.table.specs.Table.{longestHold, lengthOf, regionOf, timerSetOf, member, WellFormed}
 use Rattle.table.specs.Check.{tableAnswer, tableIn}
 use Rattle.table.proofs.WellFormed.{well-formed}
 use Rattle.machine.specs.declared.Machine.{Machine}
 use Rattle.machine.specs.Verdict.{leftOf, largestOver}
-use Rattle.machine.specs.Machine.{watchBy, timerWatch, timerWatches, stateWatch, left, entered}
+use Rattle.machine.specs.Machine.{watchBy, timerWatch, stateWatch, left, entered}
 use Rattle.machine.specs.Lent.{Sane, Underway}
 use Rattle.machine.proofs.Steps.{fits-sane}
 use Rattle.machine.proofs.Watches.{watch-idle, no-timer, timers-fit, left-by-state, left-by-timers, no-regions, no-holds}
