@@ -1228,6 +1228,17 @@ static size_t differs_at(const struct lent *a, const struct lent *b)
 }
 
 static uint64_t passed, mismatches;
+
+/* With FIRST defined the first one ends the test: of a fault that was put in no more is asked. */
+static void count_mismatch(void)
+{
+    mismatches++;
+#ifdef FIRST
+    printf("mismatches: %" PRIu64 "\n", mismatches);
+    exit(1);
+#endif
+}
+
 enum { NUMBERS = 37 }; /* one more than the largest of a refusal */
 static uint64_t histogram[ENTRIES][NUMBERS], other_numbers;
 
@@ -1337,7 +1348,7 @@ static bool compare(const char *label, const struct call *call, const uint64_t *
     } else {
         if (mismatches == 0)
             print_case(label, call, reason);
-        mismatches++;
+        count_mismatch();
     }
     return reason == NULL;
 }
@@ -1611,7 +1622,7 @@ static void count_twice(const char *label)
             print_bytes("table", table.at, table.len);
             print_bytes("journal", input.at, input.len);
         }
-        mismatches++;
+        count_mismatch();
     }
 }
 
@@ -1650,7 +1661,7 @@ static void add_in_two_orders(const char *label, const struct plan *plan)
     if (memcmp(first, second, sizeof first) != 0) {
         if (mismatches == 0)
             printf("first mismatch: %s: journals added in another order give another report\n", label);
-        mismatches++;
+        count_mismatch();
     }
 }
 
@@ -1670,7 +1681,7 @@ static void work_out_twice(const char *label, const struct call *call)
             print_bytes("table", table.at, table.len);
             printf("  states %08" PRIX32 ", inputs %08" PRIX32 ", moves %" PRIu32 "\n", call->states, call->inputs, call->moves);
         }
-        mismatches++;
+        count_mismatch();
     }
 }
 
@@ -1771,7 +1782,7 @@ static void fail(const char *label, const char *reason, const struct bytes *byte
         print_bytes("table", table.at, table.len);
         print_bytes("field or whole", bytes->at, bytes->len);
     }
-    mismatches++;
+    count_mismatch();
 }
 
 /* What becomes of one field: the code, the memory, the record and the answer. */
@@ -2100,7 +2111,7 @@ static void expect(bool right, const char *otherwise)
         passed++;
     } else {
         printf("%s\n", otherwise);
-        mismatches++;
+        count_mismatch();
     }
 }
 

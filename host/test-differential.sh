@@ -361,12 +361,13 @@ if [ "$self" = no ]; then
     try stack 0 0
 fi
 
-# Each fault, in a second reference on the library's side. Only a mismatch counts as caught. No library: this processor's own compiler.
-echo "== faults: $fault_cases cases each"
+# Each fault, in a second reference on the library's side. Only a mismatch counts as caught, and the first is enough. No library: this
+# processor's own compiler.
+echo "== faults: $fault_cases cases each, or up to the first mismatch"
 compiler=$own
 link=()
 run=()
-compile -c host/reference.c -o "$out/reference.o" && compile -DSELF -c host/differential.c -o "$out/self.o" ||
+compile -c host/reference.c -o "$out/reference.o" && compile -DSELF -DFIRST -c host/differential.c -o "$out/self.o" ||
     stop "did not build"
 try_fault() { # NUMBER: its log is missing if it did not build. It is built faster than it would run faster.
     local program="$out/fault-$1"
@@ -388,7 +389,7 @@ judge_fault() { # NUMBER MEANING: of one that was tried
         printf 'fault %2s: no mismatch, as it should be: %s\n' "$1" "$2"
         passed=$((passed + 1))
     elif [ "$1" -ne 0 ] && [ "${found:-0}" -gt 0 ]; then
-        printf 'fault %2s: caught %5s times: %s\n' "$1" "$found" "$2"
+        printf 'fault %2s: caught: %s; %s\n' "$1" "$2" "$(sed -n 's/^first mismatch: //p' "$log")"
         passed=$((passed + 1))
     else
         printf 'fault %2s: WRONG, %s mismatches: %s\n' "$1" "${found:-no count of}" "$2"
