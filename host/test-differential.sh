@@ -7,7 +7,6 @@
 #   host/test-differential.sh [--self] [CASES [SEED]]
 #
 # --self: a second build of the reference stands in for the library, which is then not needed.
-# RT: the command to build the library with (default: rt).
 set -u
 CDPATH='' cd -- "$(dirname -- "${BASH_SOURCE[0]}")/.." || exit 1
 
@@ -44,8 +43,7 @@ echo | "$own" -xc++ -fsyntax-only - 2>/dev/null || install_packages g++ || stop 
 
 mkdir -p "$out" || stop "could not make $out"
 if [ "$self" = no ]; then
-    "${RT-rt}" staticlib krossvil || stop "rt staticlib krossvil failed"
-    [ -e "$library" ] || stop "no $library"
+    kit/native/build x86-64 || stop "the library was not built"
 fi
 
 compile() { # FLAGS AND FILES

@@ -54,7 +54,7 @@ if [ "$self" = yes ]; then
         called+=("-Dkrossvil_$entry=reference_$entry")
     done
 else
-    "${RT-rt}" staticlib krossvil || stop 'rt staticlib krossvil failed'
+    kit/native/build x86-64 || stop 'the library was not built'
 fi
 for example in live watch check; do
     "$compiler" -std=c11 -O2 -Wall -Wextra -Werror -Ihost -Iinclude "examples/$example.c" "${called[@]}" "${link[@]}" -o "$out/$example" ||

@@ -217,9 +217,8 @@ rm -rf "$out"
 mkdir -p "$out" || exit 1
 install_missing || give_up 'what is missing could not be installed'
 install_emulators || give_up 'the emulators could not be installed'
-"${RT-rt}" staticlib krossvil || give_up 'rt staticlib krossvil failed'
 echo '== the archives'
-kit/native/build "${targets[@]}" || give_up 'an archive could not be built'
+kit/native/build x86-64 "${targets[@]}" || give_up 'an archive could not be built'
 echo '== the rules for the module'
 kit/native/try | tee "$out/rules"
 add_counts "$out/rules" "${PIPESTATUS[0]}"

@@ -8,6 +8,7 @@ bare_targets=(cortex-m3 cortex-m4hf riscv32imc)
 describe() { # TARGET
     needs='memcpy memset' made=target/kit/$1/libkrossvil.a
     case $1 in
+    x86-64) triple=x86_64-unknown-linux-gnu flags=() made=target/staticlib/libkrossvil.a ;; # as the toolchain writes it
     # No more of WebAssembly than this is used, whatever the compiler takes by itself.
     wasm) triple=wasm32-unknown-unknown flags=(-mcpu=mvp -msign-ext -mbulk-memory -mbulk-memory-opt) needs='' made=target/kit/krossvil.wasm ;;
     arm64-linux) triple=aarch64-unknown-linux-gnu flags=(-fPIC) ;;
@@ -16,6 +17,6 @@ describe() { # TARGET
     cortex-m3) triple=thumbv7m-unknown-none-gnueabi flags=(-mcpu=cortex-m3) ;;
     cortex-m4hf) triple=thumbv7em-unknown-none-gnueabihf flags=(-mcpu=cortex-m4 -mfpu=fpv4-sp-d16 -mfloat-abi=hard) ;;
     riscv32imc) triple=riscv32-unknown-none-elf flags=(-march=rv32imc -mabi=ilp32) ;;
-    *) stop "no target $1; there are: wasm ${linux_targets[*]} ${bare_targets[*]}" ;;
+    *) stop "no target $1; there are: x86-64 wasm ${linux_targets[*]} ${bare_targets[*]}" ;;
     esac
 }

@@ -50,7 +50,7 @@ function manyFiles() {
 
 /** The command as it is installed: one file, which starts faster than the modules of a clone. */
 function installed() {
-  execFileSync(join(KIT, 'deb/build'));
+  execFileSync(join(KIT, 'deb/build'), ['krossvil']);
   execFileSync('dpkg-deb', ['-x', join(KIT, '../target/kit/krossvil.deb'), join(folder, 'installed')]);
   return join(folder, 'installed/usr/bin/krossvil');
 }
