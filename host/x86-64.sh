@@ -18,13 +18,16 @@ if [ "$(uname -m)" != x86_64 ]; then
     run=("$emulator")
 fi
 
+# One test at a time installs, and no test looks for what is missing while another does: what is half installed is not there.
+flock -s host true
+
 install_packages() { # PACKAGES
     local as_root=()
     [ "$#" -gt 0 ] || return 0
     echo "installing $*"
     [ "$(id -u)" -eq 0 ] || as_root=(sudo -n)
-    "${as_root[@]}" env DEBIAN_FRONTEND=noninteractive apt-get -q update </dev/null >/dev/null
-    "${as_root[@]}" env DEBIAN_FRONTEND=noninteractive apt-get -q -y --no-install-recommends install "$@" </dev/null >/dev/null
+    flock host "${as_root[@]}" sh -c 'export DEBIAN_FRONTEND=noninteractive
+        apt-get -q update; apt-get -q -y --no-install-recommends install "$@"' sh "$@" </dev/null >/dev/null
 }
 
 # What is missing of all that this processor needs.
