@@ -60,6 +60,7 @@ class Module {
     this.memory = new Uint8Array(this.exports.memory.buffer);
     this.view = new DataView(this.exports.memory.buffer);
     this.rooms = layOut(Number(this.exports.__heap_base.value));
+    this.answerRoom = this.lend('answer');
   }
 
   /**
@@ -68,9 +69,9 @@ class Module {
    */
   give(name, bytes) {
     const { at, size } = this.rooms[name];
-    const length = Math.min(bytes.length, size);
-    this.memory.set(bytes.subarray(0, length), at);
-    return [at, BigInt(length)];
+    const given = bytes.length > size ? bytes.subarray(0, size) : bytes;
+    this.memory.set(given, at);
+    return [at, BigInt(given.length)];
   }
 
   /**
@@ -89,13 +90,13 @@ class Module {
   }
 
   /**
-   * The answer's numbers, under these names.
+   * A good answer, with its numbers under these names.
    * @param {string[]} names
    */
   answer(names) {
     const { at } = this.rooms.answer;
-    /** @type {Record<string, number>} */
-    const numbers = {};
+    /** @type {Record<string, any>} */
+    const numbers = { ok: true };
     for (let k = 0; k < names.length; k++) numbers[names[k]] = this.view.getUint32(at + 4 * k);
     return numbers;
   }
@@ -106,10 +107,10 @@ class Module {
    * @returns {any}
    */
   call(name, args, names) {
-    if (names.length > 0) args.push(this.lend('answer'));
+    if (names.length > 0) args.push(this.answerRoom);
     const code = BigInt.asUintN(64, this.exports[name](...args.flat()));
     if (code !== 0n) return { ok: false, number: Number(code >> 32n), place: Number(code & 0xffffffffn) };
-    return { ok: true, ...this.answer(names) };
+    return this.answer(names);
   }
 
   /**
@@ -296,6 +297,15 @@ class Krossvil {
 export async function loadLibrary(wasm) {
   const { instance } = await WebAssembly.instantiate(wasm, {});
   return new Krossvil(new Module(instance.exports));
+}
+
+/**
+ * The same at once, without other threads; a browser may not do that.
+ * @param {BufferSource} wasm
+ * @returns {Library}
+ */
+export function loadLibraryNow(wasm) {
+  return new Krossvil(new Module(new WebAssembly.Instance(new WebAssembly.Module(wasm), {}).exports));
 }
 
 /** The memory of a live run that has not begun. */

@@ -37,6 +37,8 @@ const NONE = plainNames({ states: 0, inputs: 0, outputs: 0 }, 0);
 const KINDS = new Map([['table', 'table']]);
 for (const form of /** @type {Form[]} */ (Object.keys(FORM_WORDS))) KINDS.set(FORM_WORDS[form], form);
 
+/** The first byte of a text: of the word, or of a mark of UTF-8 before it. */
+const FIRST_BYTES = [MAGIC.charCodeAt(0), 0xef];
 const BEGINNING = new RegExp(`^${BOM}?${MAGIC}(\\s|$)`);
 const DECODER = new TextDecoder();
 
@@ -45,6 +47,7 @@ const DECODER = new TextDecoder();
  * @param {Uint8Array|string} data
  */
 export function isText(data) {
+  if (typeof data !== 'string' && !FIRST_BYTES.includes(data[0])) return false;
   return BEGINNING.test(typeof data === 'string' ? data.slice(0, 20) : DECODER.decode(data.subarray(0, 20)));
 }
 

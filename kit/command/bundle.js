@@ -1,10 +1,10 @@
 /**
  * Modules in one script: a function for each, which runs once, when it is first needed. Import and export lines as the kit writes them
- * are understood; any other stops the build. A module that is loaded later, as `() => import('./it.js')`, is there already. Remarks on
- * lines of their own are left out, since what starts must first be read.
+ * are understood; any other stops the build. A module that is loaded later, as `() => import('./it.js')`, is there already, or stands in
+ * a script of its own. Remarks on lines of their own are left out, since what starts must first be read.
  */
 import { readFileSync } from 'node:fs';
-import { dirname, relative, resolve } from 'node:path';
+import { basename, dirname, relative, resolve } from 'node:path';
 import { fileURLToPath } from 'node:url';
 
 const kit = resolve(dirname(fileURLToPath(import.meta.url)), '..');
@@ -33,9 +33,9 @@ const pattern = (list) => pairs(list).map(([name, own]) => `${name}: ${own}`).jo
 
 /**
  * A module as a function whose value has its exports.
- * @param {string} source @param {(from: string) => string} valueOf
+ * @param {string} source @param {(from: string) => string} valueOf @param {(from: string) => string} laterOf
  */
-function wrap(source, valueOf) {
+function wrap(source, valueOf, laterOf) {
   /** @type {string[]} */
   const exported = [];
   const body = source.replace(REMARK, '')
@@ -52,11 +52,49 @@ function wrap(source, valueOf) {
       exported.push(name);
       return `${what} ${name}`;
     })
-    .replace(LATER, (_, from) => `async () => ${valueOf(from)}`)
+    .replace(LATER, (_, from) => `async () => ${laterOf(from)}`)
     .replaceAll('import.meta.url', 'here');
   const odd = /^(import|export)\b.*$/m.exec(body);
   if (odd) throw new Error(`not understood: ${odd[0]}`);
   return `once(() => {\n${body}\nreturn { ${exported.join(', ')} };\n})`;
+}
+
+const ONCE = 'const once = (make) => {\nlet made;\nreturn () => made ??= make();\n};';
+
+/** Modules by their files, each with its name in the script. */
+class Gathered {
+  /** @param {Map<string, string>} known  modules that stand elsewhere */
+  constructor(known = new Map()) {
+    this.known = known;
+    /** @type {Map<string, string>} */
+    this.done = new Map();
+    this.open = new Set();
+    /** @type {string[]} */
+    this.lines = [];
+    /** Those that stand elsewhere and are needed here. */
+    this.needed = new Set();
+  }
+
+  /**
+   * Adds a module and all that it needs; gives its name.
+   * @param {string} file @param {(file: string) => string} laterOf  what loads a module later
+   * @returns {string}
+   */
+  add(file, laterOf) {
+    const elsewhere = this.known.get(file);
+    if (elsewhere) this.needed.add(elsewhere);
+    const ready = elsewhere ?? this.done.get(file);
+    if (ready) return ready;
+    if (this.open.has(file)) throw new Error(`${file} needs itself`);
+    this.open.add(file);
+    const path = (/** @type {string} */ from) => resolve(dirname(file), from);
+    const valueOf = (/** @type {string} */ from) => (from.startsWith('node:') ? `require('${from}')` : `${this.add(path(from), laterOf)}()`);
+    const value = wrap(readFileSync(file, 'utf8'), valueOf, (from) => laterOf(path(from)));
+    const id = `m${this.known.size + this.done.size}`;
+    this.done.set(file, id);
+    this.lines.push(`// ${relative(kit, file)}\nconst ${id} = ${value};`);
+    return id;
+  }
 }
 
 /**
@@ -64,25 +102,34 @@ function wrap(source, valueOf) {
  * @param {string} entry
  */
 export function bundle(entry) {
-  /** @type {Map<string, string>} */
-  const done = new Map();
-  const open = new Set();
-  /** @type {string[]} */
-  const parts = [];
+  const all = new Gathered();
   /** @type {(file: string) => string} */
-  const visit = (file) => {
-    const ready = done.get(file);
-    if (ready) return ready;
-    if (open.has(file)) throw new Error(`${file} needs itself`);
-    open.add(file);
-    const valueOf = (/** @type {string} */ from) => (from.startsWith('node:') ? `require('${from}')` : `${visit(resolve(dirname(file), from))}()`);
-    const value = wrap(readFileSync(file, 'utf8'), valueOf);
-    const id = `m${done.size}`;
-    done.set(file, id);
-    parts.push(`// ${relative(kit, file)}\nconst ${id} = ${value};`);
-    return id;
-  };
-  const last = visit(entry);
-  const once = 'const once = (make) => {\nlet made;\nreturn () => made ??= make();\n};';
-  return `'use strict';\n(() => {\n${once}\n${parts.join('\n')}\n${last}();\n})();`;
+  const laterOf = (file) => `${all.add(file, laterOf)}()`;
+  const last = all.add(entry, laterOf);
+  return `'use strict';\n(() => {\n${ONCE}\n${all.lines.join('\n')}\n${last}();\n})();`;
+}
+
+/**
+ * The same in several scripts for Node: one that starts, with what it needs itself, and in a folder beside it one for each module that is
+ * loaded later, so that no more is read than is asked for. `here` is what stands for import.meta.url.
+ * @param {string} entry @param {string} folder  its name
+ * @returns {{start: string, later: [name: string, script: string][]}}
+ */
+export function bundleInParts(entry, folder) {
+  const main = new Gathered();
+  const files = new Set();
+  const nameOf = (/** @type {string} */ file) => `${basename(file, '.js')}.cjs`;
+  const last = main.add(entry, (file) => {
+    files.add(file);
+    return `require('./${folder}/${nameOf(file)}')(shared)`;
+  });
+  const shared = `const shared = { here, ${[...main.done.values()].join(', ')} };`;
+  const start = `${ONCE}\n${main.lines.join('\n')}\n${shared}\n${last}();`;
+  const later = [...files].map((file) => {
+    const part = new Gathered(main.done);
+    const value = part.add(file, () => { throw new Error(`${file}: it is loaded later, and loads later itself`); });
+    const given = `({ ${['here', ...part.needed].join(', ')} })`;
+    return /** @type {[string, string]} */ ([nameOf(file), `'use strict';\nmodule.exports = ${given} => {\n${ONCE}\n${part.lines.join('\n')}\nreturn ${value}();\n};`]);
+  });
+  return { start, later };
 }

@@ -58,11 +58,11 @@ function checkOne(asking, table, source, many) {
     tell(asking, namingWatch(told(asking, table, source, answer)), before);
     return REFUSED;
   }
-  const { ok, ...numbers } = answer;
+  const { ok, ...numbers } = asking.json ? answer : { ok: true };
   if (asking.json) terminal.json({ file: source.file, answer: 'accepted', ...numbers });
-  else terminal.line(`${before}${acceptanceLine(numbers)}`, 'green');
+  else terminal.line(`${before}${acceptanceLine(answer)}`, 'green');
   const decoded = many || asking.plain || asking.json ? null : decodeTable(table.bytes, table.names);
-  if (decoded) for (const sentence of sayAcceptance(decoded, numbers)) terminal.sentence(sentence);
+  if (decoded) for (const sentence of sayAcceptance(decoded, answer)) terminal.sentence(sentence);
   return ACCEPTED;
 }
 

@@ -3,7 +3,6 @@
 import { closeSync, fstatSync, openSync, readSync, readdirSync, statSync, writeSync } from 'node:fs';
 import { createRequire } from 'node:module';
 import { join } from 'node:path';
-import { isatty } from 'node:tty';
 import { Inputs, isOpenAs, writeWhole } from './output-files.js';
 import { getSystemErrorMessage, orTrouble } from './system-errors.js';
 import { whyFailed } from './tool-failure.js';
@@ -32,6 +31,22 @@ import { Trouble } from './trouble.js';
 
 const [INPUT, OUTPUT, ERRORS] = [0, 1, 2];
 
+/**
+ * Is a terminal open there? Node's own answer takes its time to load, and is asked only of a device that might be one.
+ * @param {number} file
+ */
+function isTerminal(file) {
+  try {
+    const stat = fstatSync(file);
+    if (!stat.isCharacterDevice() || stat.rdev === statSync('/dev/null', { throwIfNoEntry: false })?.rdev) return false;
+  } catch {
+    return false; // it is closed
+  }
+  return createRequire(import.meta.url)('node:tty').isatty(file);
+}
+
+const PRINTS_TO_TERMINAL = isTerminal(OUTPUT);
+
 /** A file that grows is looked at so often, in milliseconds. */
 const FOLLOWED_EVERY = 100;
 
@@ -45,8 +60,7 @@ function readUpTo(file, limit) {
   let room = ROOM;
   let length = 0;
   for (;;) {
-    const chunk = room.subarray(length, limit);
-    const count = patiently(() => readSync(file, chunk));
+    const count = patiently(() => readSync(file, room, length, Math.min(limit, room.length) - length, null));
     length += count;
     if (count === 0 || length >= limit) return room.subarray(0, length);
     if (length === room.length) room = Buffer.concat([room, Buffer.alloc(room.length)]);
@@ -96,7 +110,7 @@ class Waiting {
     /** @type {string[]} */
     this.pieces = [];
     this.length = 0;
-    this.most = isatty(OUTPUT) ? 0 : 65536;
+    this.most = PRINTS_TO_TERMINAL ? 0 : 65536;
   }
 
   /** @param {Uint8Array|string} data */
@@ -210,8 +224,8 @@ export const realIo = {
   },
   finish: () => waiting.flush(),
   convert,
-  printsToTerminal: isatty(OUTPUT),
-  complainsToTerminal: isatty(ERRORS),
-  colours: isatty(OUTPUT) && !process.env.NO_COLOR && process.env.TERM !== 'dumb',
-  columns: (isatty(OUTPUT) && process.stdout.columns) || 100,
+  printsToTerminal: PRINTS_TO_TERMINAL,
+  complainsToTerminal: isTerminal(ERRORS),
+  colours: PRINTS_TO_TERMINAL && !process.env.NO_COLOR && process.env.TERM !== 'dumb',
+  columns: (PRINTS_TO_TERMINAL && process.stdout.columns) || 100,
 };

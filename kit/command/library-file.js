@@ -2,7 +2,7 @@
 
 import { existsSync, readFileSync } from 'node:fs';
 import { fileURLToPath } from 'node:url';
-import { loadLibrary } from '../library.js';
+import { loadLibraryNow } from '../library.js';
 import { Trouble } from './trouble.js';
 
 /**
@@ -29,5 +29,5 @@ export function libraryFile() {
 
 /** The proved library. */
 export async function ownLibrary() {
-  return loadLibrary(readFileSync(libraryFile()));
+  return loadLibraryNow(readFileSync(libraryFile()));
 }

@@ -173,7 +173,8 @@ export const shownFile = (file) => (file === '-' ? 'standard input' : file);
  * @returns {Source}
  */
 function bytesSource(file, data, form) {
-  return { file, form, bytes: data.subarray(0, mostOf(form)), part: null, text: null };
+  const most = mostOf(form);
+  return { file, form, bytes: data.length > most ? data.subarray(0, most) : data, part: null, text: null };
 }
 
 /**

@@ -56,7 +56,8 @@ export class Terminal {
     this.beside = beside;
     this.coloured = io.colours && !plain && !beside;
     this.isTerminal = beside ? io.complainsToTerminal : io.printsToTerminal;
-    this.progressDrawn = 0;
+    /** @type {number|null} when it is drawn next, once there is something to wait for */
+    this.progressAt = null;
     this.progressShown = false;
   }
 
@@ -98,14 +99,15 @@ export class Terminal {
   }
 
   /**
-   * How far it is, on one line of the terminal that is written over.
+   * How far it is, on one line of the terminal that is written over; only of work that takes longer than a second.
    * @param {number} done @param {number} of
    */
   progress(done, of) {
     if (!this.io.complainsToTerminal || of < 2) return;
     const now = Date.now();
-    if (now - this.progressDrawn < 100) return;
-    this.progressDrawn = now;
+    this.progressAt ??= now + 1000;
+    if (now < this.progressAt) return;
+    this.progressAt = now + 100;
     this.progressShown = true;
     this.io.complain(`\r\x1b[K${done} of ${of} journals`);
   }

@@ -15,13 +15,26 @@
 
 const NAME_MAX = 64;
 
-const WORD = '[\\p{L}\\p{M}\\p{N}_.]+(?:-[\\p{L}\\p{M}\\p{N}_.]+)*';
-const TOKEN = new RegExp(`(?<name>"[^"]*")|(?<arrow>->|→)|(?<comma>,)|(?<gap>\\+[0-9]+)|(?<word>${WORD}|-[0-9]+)|(?<dash>-)`, 'uy');
 const SPACES = /\s*/uy;
-const BARE = /^[\p{L}_][\p{L}\p{M}\p{N}_.]*(?:-[\p{L}\p{M}\p{N}_.]+)*$/u;
 
-/** What cannot be seen: control characters, those that turn the direction of writing, those of no width, separators of lines. */
-const HIDDEN = /[\p{Cc}\p{Cf}\p{Cs}\p{Co}\p{Zl}\p{Zp}]/u;
+/**
+ * Patterns over all letters, made when a text is first read: that takes longer than most answers about bytes.
+ * @returns {{token: RegExp, bare: RegExp, hidden: RegExp}}
+ */
+function makePatterns() {
+  const word = '[\\p{L}\\p{M}\\p{N}_.]+(?:-[\\p{L}\\p{M}\\p{N}_.]+)*';
+  return {
+    token: new RegExp(`(?<name>"[^"]*")|(?<arrow>->|→)|(?<comma>,)|(?<gap>\\+[0-9]+)|(?<word>${word}|-[0-9]+)|(?<dash>-)`, 'uy'),
+    bare: /^[\p{L}_][\p{L}\p{M}\p{N}_.]*(?:-[\p{L}\p{M}\p{N}_.]+)*$/u,
+    // What cannot be seen: control characters, those that turn the direction of writing, those of no width, separators of lines.
+    hidden: /[\p{Cc}\p{Cf}\p{Cs}\p{Co}\p{Zl}\p{Zp}]/u,
+  };
+}
+
+/** @type {ReturnType<typeof makePatterns>|undefined} */
+let made;
+
+const patterns = () => (made ??= makePatterns());
 
 /** Words with a meaning of their own. A name that is one of them is written in quotation marks. */
 const KEYWORDS = new Set(['krossvil', 'table', 'stimulus', 'journal', 'stamped', 'short', 'cycle', 'inputs', 'outputs', 'start', 'timer',
@@ -35,7 +48,7 @@ export function nameFault(name) {
   if (name.trim() === '') return 'a name needs letters';
   if (name !== name.trim()) return 'a name neither begins nor ends with a space';
   if (name.length > NAME_MAX) return `a name has at most ${NAME_MAX} characters`;
-  return HIDDEN.test(name) || name.includes('"') ? 'a name has only characters that can be seen, and no quotation mark' : null;
+  return patterns().hidden.test(name) || name.includes('"') ? 'a name has only characters that can be seen, and no quotation mark' : null;
 }
 
 /**
@@ -43,7 +56,7 @@ export function nameFault(name) {
  * @param {string} name
  */
 export function writtenName(name) {
-  return BARE.test(name) && !KEYWORDS.has(name) ? name : `"${name}"`;
+  return patterns().bare.test(name) && !KEYWORDS.has(name) ? name : `"${name}"`;
 }
 
 /**
@@ -52,7 +65,7 @@ export function writtenName(name) {
  */
 export function tokenNameFault(token) {
   if (token.kind === 'name') return nameFault(token.text);
-  if (token.kind !== 'word' || !BARE.test(token.text)) return `a name begins with a letter, or stands in quotation marks: "${token.text}"`;
+  if (token.kind !== 'word' || !patterns().bare.test(token.text)) return `a name begins with a letter, or stands in quotation marks: "${token.text}"`;
   return nameFault(token.text);
 }
 
@@ -74,7 +87,7 @@ function strange(line, at) {
  * @returns {Fault|null}
  */
 function hiddenFault(line) {
-  const at = line.replaceAll('\t', ' ').search(HIDDEN);
+  const at = line.replaceAll('\t', ' ').search(patterns().hidden);
   if (at < 0) return null;
   const code = (line.codePointAt(at) ?? 0).toString(16).toUpperCase().padStart(4, '0');
   return { column: at + 1, width: 1, says: `a character that cannot be seen stands here (U+${code})` };
@@ -112,9 +125,10 @@ export function readLine(line) {
   /** @type {Token[]} */
   const tokens = [];
   const hidden = hiddenFault(line);
+  const { token } = patterns();
   for (let at = behindSpaces(line, 0); at < line.length && line[at] !== '#';) {
-    TOKEN.lastIndex = at;
-    const match = TOKEN.exec(line);
+    token.lastIndex = at;
+    const match = token.exec(line);
     if (!match) return { tokens, fault: hidden ?? strange(line, at) };
     tokens.push(tokenOf(match));
     at = behindSpaces(line, at + match[0].length);

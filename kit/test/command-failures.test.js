@@ -3,7 +3,7 @@
 import assert from 'node:assert/strict';
 import { execFileSync, spawnSync } from 'node:child_process';
 import { createHash } from 'node:crypto';
-import { copyFileSync, linkSync, mkdirSync, mkdtempSync, readFileSync, rmSync, symlinkSync, writeFileSync } from 'node:fs';
+import { copyFileSync, cpSync, linkSync, mkdirSync, mkdtempSync, readFileSync, rmSync, symlinkSync, writeFileSync } from 'node:fs';
 import { tmpdir } from 'node:os';
 import { join } from 'node:path';
 import { after, test } from 'node:test';
@@ -89,7 +89,7 @@ test('without node, and where the library is broken, it is an object too', () =>
   const installed = mkdtempSync(join(folder, 'installed'));
   execFileSync(join(KIT, 'command/build'));
   copyFileSync(COMMAND, join(installed, 'krossvil'));
-  copyFileSync(join(KIT, '../target/kit/krossvil.cjs'), join(installed, 'krossvil.cjs'));
+  for (const made of ['krossvil.cjs', 'parts']) cpSync(join(KIT, '../target/kit', made), join(installed, made), { recursive: true });
   writeFileSync(join(installed, 'krossvil.wasm'), 'broken');
   const broken = (args) => spawnSync(join(installed, 'krossvil'), args, { cwd: join(KIT, 'samples'), encoding: 'utf8' });
   const told = broken(['check', 'classroom.kv', '--json']);

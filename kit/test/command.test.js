@@ -75,13 +75,17 @@ test('many journals: a line each, the worst code, and those that cannot be read 
 
 test('a progress line at a terminal, which is gone in the end', async () => {
   const many = Object.fromEntries(Array.from({ length: 300 }, (_, k) => [`${k}.bin`, FILES['journal.bin']]));
-  let now = 0;
+  let [now, step] = [0, 30];
   const real = Date.now;
-  Date.now = () => (now += 30);
+  Date.now = () => (now += step);
+  const errorsOf = async (world) => (await ask(['check', 'table.bin', ...Object.keys(many), '--json'], { ...FILES, ...many }, world)).err;
   try {
-    const { err } = await ask(['check', 'table.bin', ...Object.keys(many), '--json'], { ...FILES, ...many }, { complainsToTerminal: true });
+    const err = await errorsOf({ complainsToTerminal: true });
     assert.match(err, /^(\r\x1b\[K\d+ of 300 journals\r\x1b\[K)+$/);
-    assert.equal((await ask(['check', 'table.bin', ...Object.keys(many)], { ...FILES, ...many })).err, '');
+    assert.ok(Number(/\d+/.exec(err.replace('\x1b[', ''))[0]) > 30, 'it comes after a second');
+    assert.equal(await errorsOf({}), '');
+    step = 3;
+    assert.equal(await errorsOf({ complainsToTerminal: true }), '', 'less than a second has none');
   } finally {
     Date.now = real;
   }

@@ -8,7 +8,7 @@ fill() {
     done
     mkdir -p "$kit" "$root/usr/bin" "$root/usr/share/man/man1" "$doc/examples" "$completions"
     node kit/command/build
-    cp kit/krossvil kit/package.json "$out/krossvil.cjs" "$out/krossvil.wasm" "$out/krossvil.html" "$kit"
+    cp -r kit/krossvil kit/package.json "$out/krossvil.cjs" "$out/parts" "$out/krossvil.wasm" "$out/krossvil.html" "$kit"
     ln -s ../share/krossvil/krossvil "$root/usr/bin/krossvil"
     node kit/deb/manual.js manual | gzip -9n >"$root/usr/share/man/man1/krossvil.1.gz"
     node kit/deb/manual.js completion >"$completions/krossvil"
