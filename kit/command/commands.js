@@ -165,6 +165,18 @@ export const COMMANDS = {
       ['krossvil react classroom.kv --while train --json', 'numbers for a script'],
     ],
   },
+  slow: {
+    group: 'at the desk', files: 'TABLE', count: [1, 1], options: ['output', 'from', 'while', 'moves', 'seconds'],
+    module: () => import('./slow.js'), writes: true,
+    says: 'a run that takes as long as could be found: --from STATES --while INPUTS',
+    more: ['A journal, accepted by the proved checker, in which the state stays one of STATES and the input one of INPUTS for as many slots as could be '
+      + 'found, and the state is still outside the target. It shows which times are not enough.',
+    'The search stops where the tight time of one move is reached, or when its seconds are over.'],
+    examples: [
+      ['krossvil slow classroom.kv --while no_train', 'eleven slots without a train, and still busy'],
+      ['krossvil slow mixer.kv --while stop --moves 3 -o slow.kv', 'over several moves, as a text'],
+    ],
+  },
   wave: {
     group: 'at the desk', files: 'TABLE [JOURNAL]', count: [1, 2], options: ['output', 'as', 'unit'],
     module: () => import('./pictures.js'), writes: true,

@@ -21,6 +21,7 @@ export const OPTIONS = {
   while: { type: 'string', value: 'INPUTS', says: 'names with commas between; all inputs if left out' },
   moves: { type: 'string', value: 'N', says: 'over so many moves, at most 32, with the longest way' },
   tight: { type: 'boolean', says: 'also the tight time, which is enough too, since times are whole numbers' },
+  seconds: { type: 'string', value: 'N', says: 'search for at most so long; 10 if left out' },
   follow: { type: 'boolean', says: 'read on while the file grows, up to the end record' },
   unit: { type: 'string', value: 'TIME', says: 'how long one unit is: 1 ms if left out; 1, 10 or 100 of s, ms, us, ns, ps or fs' },
 };

@@ -66,8 +66,8 @@ export class Page {
     this.opening = Promise.resolve();
     this.reaction = new ReactionPanel(library, {
       form: byId('reaction-form'), states: byId('reaction-states'), inputs: byId('reaction-inputs'), moves: byId('reaction-moves'),
-      answer: byId('reaction-answer'),
-    }, () => drawWay(this));
+      answer: byId('reaction-answer'), slow: byId('reaction-slow'),
+    }, () => drawWay(this), { journal: () => this.texts.journal, take: (journal) => this.replace({ ...this.texts, journal }, 'journal', 'A slow run') });
   }
 
   /** @param {Pane} pane */
@@ -206,6 +206,7 @@ export class Page {
   /** What was answered before is out of reach, before anything else can fail. Says whether the texts are others now. */
   #forget() {
     this.reaction.given = null;
+    this.reaction.slow.stop();
     clearTimeout(this.waiting.get('spoken'));
     cancelAnimationFrame(this.waiting.get('frame'));
     return this.#held.drop();
