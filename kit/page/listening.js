@@ -1,6 +1,6 @@
 /** What the reader does: buttons, tabs, keys, the diagram, what is dropped or pasted. */
 
-import { copyLink, showLink } from './address.js';
+import { copyFrom, showLink } from './address.js';
 import { byId, closeMenu } from './dom.js';
 import { redraw, showOther } from './drawing.js';
 import { tooLong } from './limits.js';
@@ -39,7 +39,8 @@ function listenToButtons(page) {
   press('open', () => byId('files').click());
   press('link', () => showLink(page));
   press('link-close', () => byId('link-box').close());
-  press('link-copy', () => copyLink());
+  press('link-copy', () => copyFrom('link-text'));
+  press('link-copy-plain', () => copyFrom('link-plain'));
   for (const look of /** @type {const} */ (['large', 'dark'])) {
     press(look, () => {
       page[look] = !page[look];
