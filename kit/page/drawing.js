@@ -6,6 +6,7 @@ import { counted, thousands } from '../names.js';
 import { easierToRead, tablePicture } from '../table-picture.js';
 import { keepRoom } from './answer-room.js';
 import { byId, empty, fill, inTwoColumns, show } from './dom.js';
+import { lookOf } from './looks.js';
 import { machineAt, showMachine } from './machine.js';
 import { showTools } from './toolbox.js';
 import { PANES } from './workspace.js';
@@ -15,23 +16,10 @@ import { PANES } from './workspace.js';
 /** @typedef {import('../types.js').Trace} Trace */
 /** @typedef {import('../types.js').Step} Step */
 
-const LARGER = 1.25;
 /** A diagram that is drawn for less than this width has smaller words, and is shown larger. */
 const NARROW = { width: 700, scale: 1.1 };
 /** So many lines of the text in hand stay in sight. */
 const LINES_LEAST = 5;
-
-/**
- * How wide a picture is drawn: in large type it is drawn smaller, and then shown as wide.
- * @param {Page} page @param {HTMLElement} room
- * @returns {{width: number, theme: 'light'|'dark', scale: number}}
- */
-function lookOf({ large, dark }, room) {
-  const style = getComputedStyle(room);
-  const width = room.clientWidth - parseFloat(style.paddingLeft) - parseFloat(style.paddingRight);
-  const scale = large ? LARGER : 1;
-  return { width: Math.max(260, Math.floor(width / scale)), theme: dark ? 'dark' : 'light', scale };
-}
 
 /**
  * Everything below the answer: what there is an answer for, and nothing else.

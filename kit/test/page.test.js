@@ -225,6 +225,9 @@ test('a journal is compared with its own run', async (t) => {
   const tab = await open(t, 'example=quarry');
   await tab.click('#tool-compare');
   assert.match(await tab.text('#tool-answer'), /2 records of the journal differ.*The test at 10 says free; in the run it is held\./s);
+  assert.equal(await tab.value("document.querySelector('#tool-picture .first-difference').dataset.record"), '17');
+  await setPane(tab, 'journal', (await paneText(tab, 'journal')).replace('10  test   free', '10  test   held'));
+  assert.equal(await tab.value("document.querySelectorAll('#tool-picture').length"), 0);
 });
 
 /** Sets the boxes and the number of moves of the reaction panel. */
