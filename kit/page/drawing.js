@@ -6,8 +6,9 @@ import { counted, thousands } from '../names.js';
 import { easierToRead, tablePicture } from '../table-picture.js';
 import { keepRoom } from './answer-room.js';
 import { byId, empty, fill, inTwoColumns, show } from './dom.js';
+import { litAt, shownStep } from './lit.js';
 import { lookOf } from './looks.js';
-import { machineAt, showMachine } from './machine.js';
+import { showMachine } from './machine.js';
 import { showTools } from './toolbox.js';
 import { PANES } from './workspace.js';
 
@@ -64,17 +65,6 @@ function fitsBeside({ editors, pane }) {
 }
 
 /**
- * The record that is shown: the one that is looked at, or the refused one, or the last.
- * @param {Page} page
- * @returns {Step|null}
- */
-function shownStep({ subject, step: { selected } }) {
-  if (!subject) return null;
-  const { steps, stop } = subject.trace;
-  return steps[selected ?? stop ?? steps.length - 1] ?? null;
-}
-
-/**
  * What changes when one goes to another record.
  * @param {Page} page
  */
@@ -87,6 +77,7 @@ export function drawStep(page) {
     showWhere(subject.trace, page.step.selected);
   }
   if (answers.decoded) drawAutomaton(page, answers.decoded);
+  page.stage.draw();
 }
 
 /**
@@ -157,16 +148,6 @@ function showWhere({ steps }, selected) {
   byId('back').disabled = byId('first').disabled = selected === 0;
   byId('next').disabled = byId('last').disabled = selected === last;
   byId('whole').disabled = selected === null;
-}
-
-/**
- * The state that the machine is in, and the edge that a tick took.
- * @param {Step|null} step
- */
-function litAt(step) {
-  if (!step) return {};
-  const tick = step.record.kind === 'tick' && step.after && step.before?.phase === 3;
-  return { state: machineAt(step)?.state ?? null, edge: tick && step.before ? { from: step.before.state, input: step.before.polled } : null };
 }
 
 /**

@@ -6,6 +6,7 @@ import { redraw, showOther } from './drawing.js';
 import { tooLong } from './limits.js';
 import { listenToLive } from './live-controls.js';
 import { openExample, openFiles } from './opening.js';
+import { listenToStage } from './presenting.js';
 import { listSavings } from './saving.js';
 import { move, select, selectTime } from './stepping.js';
 import { run } from './toolbox.js';
@@ -23,6 +24,7 @@ export function listen(page) {
   listenToDrops(page);
   listenToPastes(page);
   listenToLive(page.live);
+  listenToStage(page);
 }
 
 /** @param {Page} page */

@@ -11,6 +11,7 @@ import { tooLong } from './limits.js';
 import { LivePanel } from './live.js';
 import { saidAt } from './machine.js';
 import { markTexts, showBadges, showFoot } from './marks.js';
+import { Stage } from './presenting.js';
 import { ReactionPanel } from './reaction.js';
 import { Rooms } from './rooms.js';
 import { lookAtLine } from './stepping.js';
@@ -62,6 +63,7 @@ export class Page {
     this.rooms = new Rooms();
     this.together = new Together(this);
     this.live = new LivePanel(this);
+    this.stage = new Stage(this);
     /** Files and links are opened one after the other. @type {Promise<void>} */
     this.opening = Promise.resolve();
     this.reaction = new ReactionPanel(library, {
