@@ -10,6 +10,7 @@ import { litAt, shownStep } from './lit.js';
 import { lookOf } from './looks.js';
 import { showMachine } from './machine.js';
 import { showTools } from './toolbox.js';
+import { showTouch } from './touching.js';
 import { PANES } from './workspace.js';
 
 /** @typedef {import('./page.js').Page} Page */
@@ -77,6 +78,7 @@ export function drawStep(page) {
     showWhere(subject.trace, page.step.selected);
   }
   if (answers.decoded) drawAutomaton(page, answers.decoded);
+  showTouch(page);
   page.stage.draw();
 }
 

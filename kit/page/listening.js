@@ -10,6 +10,7 @@ import { listenToStage } from './presenting.js';
 import { listSavings } from './saving.js';
 import { move, select, selectTime } from './stepping.js';
 import { run } from './toolbox.js';
+import { listenToTouch } from './touching.js';
 import { PANES } from './workspace.js';
 
 /** @typedef {import('./page.js').Page} Page */
@@ -25,6 +26,7 @@ export function listen(page) {
   listenToPastes(page);
   listenToLive(page.live);
   listenToStage(page);
+  listenToTouch(page);
 }
 
 /** @param {Page} page */

@@ -16,6 +16,7 @@ import { ReactionPanel } from './reaction.js';
 import { Rooms } from './rooms.js';
 import { lookAtLine } from './stepping.js';
 import { Together } from './together.js';
+import { Touching } from './touching.js';
 import { closeOld, showNothing } from './unanswered.js';
 import { PANES, ask } from './workspace.js';
 
@@ -64,6 +65,7 @@ export class Page {
     this.together = new Together(this);
     this.live = new LivePanel(this);
     this.stage = new Stage(this);
+    this.touching = new Touching(this);
     /** Files and links are opened one after the other. @type {Promise<void>} */
     this.opening = Promise.resolve();
     this.reaction = new ReactionPanel(library, {
@@ -126,9 +128,17 @@ export class Page {
     this.put(texts, pane, title);
   }
 
-  /** The texts that are there can be brought back. */
-  remember() {
-    this.undo = [...this.undo, { texts: this.texts, title: this.title }].slice(-UNDO_MOST);
+  /** The texts that are there, or these, can be brought back. */
+  remember(before = { texts: this.texts, title: this.title }) {
+    this.undo = [...this.undo, before].slice(-UNDO_MOST);
+  }
+
+  /**
+   * Texts that came of those that are there.
+   * @param {Texts} texts @param {Pane} pane
+   */
+  change(texts, pane) {
+    this.put(texts, pane, changed(this.title));
   }
 
   /** @param {Texts} texts @param {Pane} pane @param {string} title */
