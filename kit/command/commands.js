@@ -177,6 +177,21 @@ export const COMMANDS = {
       ['krossvil slow mixer.kv --while stop --moves 3 -o slow.kv', 'over several moves, as a text'],
     ],
   },
+  export: {
+    group: 'at the desk', files: 'LANGUAGE TABLE', count: [2, 2], options: ['output', 'while', 'states', 'within', 'hold', 'scale'],
+    module: () => import('./export.js'), writes: true,
+    says: 'the automaton for a model checker (promela, uppaal), or the table for a program (c, rust)',
+    more: ['promela is for spin, in whole units; uppaal has the clocks of the report. Without more it is the automaton alone.',
+      '--within C adds: where the state is one of --states and the input one of --while for C, the state is in the target. --hold adds: no state is '
+      + 'left too soon.',
+      'docs/MODELS.md has a question of an engineer, from the table to the answer.'],
+    examples: [
+      ['krossvil export promela classroom.kv --hold -o classroom.pml', 'then: spin -search -bfs classroom.pml'],
+      ['krossvil export promela classroom.kv --while no_train --within 12', 'twelve slots without a train are enough'],
+      ['krossvil export uppaal gas-burner.kv -o gas-burner.xml', 'then open it in UPPAAL'],
+      ['krossvil export c classroom.kv -o table.h', 'bytes and names, for a controller'],
+    ],
+  },
   wave: {
     group: 'at the desk', files: 'TABLE [JOURNAL]', count: [1, 2], options: ['output', 'as', 'unit'],
     module: () => import('./pictures.js'), writes: true,

@@ -10,6 +10,7 @@ import { SlowRun, saySlow, timesOf } from '../slow.js';
 import { Chance } from './chance.js';
 import { ask } from './command-world.js';
 import { library, sample } from './core.js';
+import { questionOf, smallTable } from './small-tables.js';
 
 const tableOf = (name) => readText(sample(name)).parts.find(({ kind }) => kind === 'table').bytes;
 
@@ -59,21 +60,6 @@ test('over several moves: 56 slots of the mixer', () => {
   assert.equal(found.slow.slots, 56);
   holdsUp(tableOf('mixer'), question, found, 0);
 });
-
-function smallTable(chance) {
-  const counts = { states: chance.between(1, 3), inputs: chance.between(1, 3), outputs: 1 };
-  const holds = Array.from({ length: counts.states }, () => (chance.percent(50) ? chance.between(1, 4) : 0));
-  return {
-    kind: 'holds', counts, start: chance.below(counts.states), cycle: chance.between(1, 3), outputs: holds.map(() => 0),
-    next: holds.map(() => Array.from({ length: counts.inputs }, () => chance.below(counts.states))),
-    holds, delayed: holds.map((hold) => (hold > 0 ? chance.below(2 ** counts.inputs) : 0)), timers: [], rest: [], names: plainNames(counts, 0),
-  };
-}
-
-function questionOf(chance, { counts: { states, inputs } }) {
-  const some = (count) => (chance.percent(50) ? 2 ** count - 1 : chance.below(2 ** count));
-  return { states: some(states), inputs: chance.between(1, 2 ** inputs - 1), moves: chance.percent(70) ? 1 : chance.below(4) };
-}
 
 test('on random small tables: never slower than the tight time allows, and how often it is reached', (t) => {
   const chance = new Chance(44);
