@@ -55,3 +55,12 @@ export function vcdWord(text) {
   }
   return word === '' ? '\\x20' : word;
 }
+
+/**
+ * In a comment of C, Rust or Promela: it can neither end the comment nor begin another, nor go on in the next line.
+ * @param {unknown} text
+ * @returns {string}
+ */
+export function inComment(text) {
+  return visible(text).replace(/[*/\\?]/g, '_');
+}

@@ -263,6 +263,11 @@
  *   rerun(library: Library, given: {table: Uint8Array, journal: Uint8Array, form: Form}): the run of a journal's own stimulus, and every
  *       record that differs from it: {ok: true, bytes, differences: {number, record, own}[]}, or the refusal of the stimulus, or null
  *   stimulusOf(journal: Uint8Array, form: Form): Uint8Array|null     null if something in the journal is no record
+ * both-runs.js exports
+ *   bothRuns(trace: Trace, own: the run as rerun gives it, options?: {width, theme, title}): string     an SVG file
+ * slow.js exports
+ *   timesOf(library: Library, table: Uint8Array, question): the library's times;  class SlowRun: a search, go(milliseconds) and found()
+ *   saySlow(names: Names, search: SlowRun, slow): string[]
  * names.js: plainNames, fittingNames, quoted, listed, counted, numbered, thousands; sets.js: has, members, setOf, wholeSet
  * examples.js: EXAMPLES, exampleFile
  */

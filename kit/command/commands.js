@@ -165,6 +165,33 @@ export const COMMANDS = {
       ['krossvil react classroom.kv --while train --json', 'numbers for a script'],
     ],
   },
+  slow: {
+    group: 'at the desk', files: 'TABLE', count: [1, 1], options: ['output', 'from', 'while', 'moves', 'seconds'],
+    module: () => import('./slow.js'), writes: true,
+    says: 'a run that takes as long as could be found: --from STATES --while INPUTS',
+    more: ['A journal, accepted by the proved checker, in which the state stays one of STATES and the input one of INPUTS for as many slots as could be '
+      + 'found, and the state is still outside the target. It shows which times are not enough.',
+    'The search stops where the tight time of one move is reached, or when its seconds are over.'],
+    examples: [
+      ['krossvil slow classroom.kv --while no_train', 'eleven slots without a train, and still busy'],
+      ['krossvil slow mixer.kv --while stop --moves 3 -o slow.kv', 'over several moves, as a text'],
+    ],
+  },
+  export: {
+    group: 'at the desk', files: 'LANGUAGE TABLE', count: [2, 2], options: ['output', 'while', 'states', 'within', 'hold', 'scale'],
+    module: () => import('./export.js'), writes: true,
+    says: 'the automaton for a model checker (promela, uppaal), or the table for a program (c, rust)',
+    more: ['promela is for spin, in whole units; uppaal has the clocks of the report. Without more it is the automaton alone.',
+      '--within C adds: where the state is one of --states and the input one of --while for C, the state is in the target. --hold adds: no state is '
+      + 'left too soon.',
+      'docs/MODELS.md has a question of an engineer, from the table to the answer.'],
+    examples: [
+      ['krossvil export promela classroom.kv --hold -o classroom.pml', 'then: spin -search -bfs classroom.pml'],
+      ['krossvil export promela classroom.kv --while no_train --within 12', 'twelve slots without a train are enough'],
+      ['krossvil export uppaal gas-burner.kv -o gas-burner.xml', 'then open it in UPPAAL'],
+      ['krossvil export c classroom.kv -o table.h', 'bytes and names, for a controller'],
+    ],
+  },
   wave: {
     group: 'at the desk', files: 'TABLE [JOURNAL]', count: [1, 2], options: ['output', 'as', 'unit'],
     module: () => import('./pictures.js'), writes: true,

@@ -19,14 +19,14 @@ import { madeObject, putMade } from './writing.js';
  * The names for the text of what was made: those given, or plain ones that fit the table.
  * @param {TableSource} table
  */
-const namesOf = (table) => table.names ?? decodeTable(table.bytes)?.names ?? null;
+export const namesOf = (table) => table.names ?? decodeTable(table.bytes)?.names ?? null;
 
 /**
  * Writes what was made and says the rest.
  * @param {Asking} asking @param {{bytes: Uint8Array, form: 'table'|Form, names: Names|null}} made
  * @param {{file: string, numbers: Record<string, any>, says: string[], line?: string}} about
  */
-function deliver(asking, made, { file, numbers, says, line }) {
+export function deliver(asking, made, { file, numbers, says, line }) {
   putMade(asking, made);
   if (asking.json) asking.terminal.json({ file, answer: 'accepted', ...numbers, ...madeObject(asking, made), says });
   else {
@@ -39,7 +39,7 @@ function deliver(asking, made, { file, numbers, says, line }) {
 /**
  * @param {Asking} asking @param {Uint8Array} bytes @param {'table'|Form} form
  */
-function sayWritten({ options }, bytes, form) {
+export function sayWritten({ options }, bytes, form) {
   return options.output === undefined ? [] : [`${counted(bytes.length, 'byte')} of a ${wordOf(form)} are in ${shownFile(options.output)}.`];
 }
 

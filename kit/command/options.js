@@ -21,6 +21,11 @@ export const OPTIONS = {
   while: { type: 'string', value: 'INPUTS', says: 'names with commas between; all inputs if left out' },
   moves: { type: 'string', value: 'N', says: 'over so many moves, at most 32, with the longest way' },
   tight: { type: 'boolean', says: 'also the tight time, which is enough too, since times are whole numbers' },
+  states: { type: 'string', value: 'STATES', says: 'names with commas between; all states if left out' },
+  within: { type: 'string', value: 'C', says: 'assert that the target is reached within C' },
+  hold: { type: 'boolean', says: 'assert that no state is left too soon' },
+  scale: { type: 'string', value: 'N', says: 'divide all times by N, where they can be divided' },
+  seconds: { type: 'string', value: 'N', says: 'search for at most so long; 10 if left out' },
   follow: { type: 'boolean', says: 'read on while the file grows, up to the end record' },
   unit: { type: 'string', value: 'TIME', says: 'how long one unit is: 1 ms if left out; 1, 10 or 100 of s, ms, us, ns, ps or fs' },
 };

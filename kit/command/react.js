@@ -40,7 +40,7 @@ function memberOf(word, names, what) {
 /**
  * @param {string|undefined} words @param {string[]} names @param {string} what
  */
-function setFrom(words, names, what) {
+export function setFrom(words, names, what) {
   return words === undefined ? wholeSet(names.length) : setOf(splitNames(words).map((word) => memberOf(word, names, what)));
 }
 
@@ -72,13 +72,33 @@ function sayAnswer(asking, table, question, answer) {
  * @param {Asking} asking @param {TableSource} source @param {Table} table @param {Question} question @param {any} answer
  */
 function answerOne(asking, source, table, question, answer) {
-  if (answer.ok) {
-    sayAnswer(asking, table, question, answer);
-    return ACCEPTED;
-  }
+  if (!answer.ok) return reactionRefused(asking, source, table, question, answer);
+  sayAnswer(asking, table, question, answer);
+  return ACCEPTED;
+}
+
+/**
+ * @param {Asking} asking @param {TableSource} source @param {Table} table @param {Question} question @param {any} answer
+ */
+export function reactionRefused(asking, source, table, question, answer) {
   const explanation = explainReaction(table, answer, question);
   tell(asking, { refusal: answer, source: { ...source, part: null }, explanation, trace: null });
   return REFUSED;
+}
+
+/**
+ * The table, and what is asked of it by names; null if it is refused, which is then said.
+ * @param {Asking} asking
+ * @returns {{source: TableSource, table: Table, states: number, inputs: number, moves: number|undefined}|null}
+ */
+export function askedBy(asking) {
+  const { options } = asking;
+  const moves = numberOf(asking, 'moves', 4294967295, 32);
+  const source = asking.table();
+  if (tableRefused(asking, source)) return null;
+  const table = /** @type {Table} */ (decodeTable(source.bytes, source.names));
+  const states = setFrom(options.from, table.names.states, 'state');
+  return { source, table, states, inputs: setFrom(options.while, table.names.inputs, 'input'), moves };
 }
 
 /**
@@ -86,12 +106,9 @@ function answerOne(asking, source, table, question, answer) {
  */
 export function react(asking) {
   const { options, library } = asking;
-  const moves = numberOf(asking, 'moves', 4294967295, 32);
-  const source = asking.table();
-  if (tableRefused(asking, source)) return REFUSED;
-  const table = /** @type {Table} */ (decodeTable(source.bytes, source.names));
-  const states = setFrom(options.from, table.names.states, 'state');
-  const inputs = setFrom(options.while, table.names.inputs, 'input');
+  const asked = askedBy(asking);
+  if (!asked) return REFUSED;
+  const { source, table, states, inputs, moves } = asked;
   const one = (/** @type {Question} */ question, /** @type {any} */ answer) => answerOne(asking, source, table, question, answer);
   const codes = [];
   if (options.tight) codes.push(one({ states, inputs }, library.reactionTight(source.bytes, states, inputs)));

@@ -30,21 +30,27 @@ export function setAddress(page, hash) {
   }
 }
 
-/** @param {Page} page */
+/**
+ * A file has an address on its own machine only; then the texts are offered as well.
+ * @param {Page} page
+ */
 export async function showLink(page) {
   const long = tooLong(page.texts);
   if (long) return page.notice(`There is no link. ${long}`);
-  const address = location.href.replace(/#.*$/, '');
-  byId('link-text').value = `${address}#${await toHash(joinTexts(page.texts))}`;
+  const text = joinTexts(page.texts);
+  byId('link-text').value = `${location.href.replace(/#.*$/, '')}#${await toHash(text)}`;
+  byId('link-plain').value = text;
+  byId('link-file').hidden = location.protocol !== 'file:';
   byId('link-box').showModal();
   byId('link-text').select();
-  byId('link-text').scrollTop = 0;
+  for (const id of ['link-text', 'link-plain']) byId(id).scrollTop = 0;
 }
 
-export async function copyLink() {
-  byId('link-text').select();
+/** @param {'link-text'|'link-plain'} id */
+export async function copyFrom(id) {
+  byId(id).select();
   try {
-    await navigator.clipboard.writeText(byId('link-text').value);
+    await navigator.clipboard.writeText(byId(id).value);
   } catch {
     document.execCommand('copy');
   }

@@ -6,8 +6,11 @@ import { counted, thousands } from '../names.js';
 import { easierToRead, tablePicture } from '../table-picture.js';
 import { keepRoom } from './answer-room.js';
 import { byId, empty, fill, inTwoColumns, show } from './dom.js';
-import { machineAt, showMachine } from './machine.js';
+import { litAt, shownStep } from './lit.js';
+import { lookOf } from './looks.js';
+import { showMachine } from './machine.js';
 import { showTools } from './toolbox.js';
+import { showTouch } from './touching.js';
 import { PANES } from './workspace.js';
 
 /** @typedef {import('./page.js').Page} Page */
@@ -15,23 +18,10 @@ import { PANES } from './workspace.js';
 /** @typedef {import('../types.js').Trace} Trace */
 /** @typedef {import('../types.js').Step} Step */
 
-const LARGER = 1.25;
 /** A diagram that is drawn for less than this width has smaller words, and is shown larger. */
 const NARROW = { width: 700, scale: 1.1 };
 /** So many lines of the text in hand stay in sight. */
 const LINES_LEAST = 5;
-
-/**
- * How wide a picture is drawn: in large type it is drawn smaller, and then shown as wide.
- * @param {Page} page @param {HTMLElement} room
- * @returns {{width: number, theme: 'light'|'dark', scale: number}}
- */
-function lookOf({ large, dark }, room) {
-  const style = getComputedStyle(room);
-  const width = room.clientWidth - parseFloat(style.paddingLeft) - parseFloat(style.paddingRight);
-  const scale = large ? LARGER : 1;
-  return { width: Math.max(260, Math.floor(width / scale)), theme: dark ? 'dark' : 'light', scale };
-}
 
 /**
  * Everything below the answer: what there is an answer for, and nothing else.
@@ -76,17 +66,6 @@ function fitsBeside({ editors, pane }) {
 }
 
 /**
- * The record that is shown: the one that is looked at, or the refused one, or the last.
- * @param {Page} page
- * @returns {Step|null}
- */
-function shownStep({ subject, step: { selected } }) {
-  if (!subject) return null;
-  const { steps, stop } = subject.trace;
-  return steps[selected ?? stop ?? steps.length - 1] ?? null;
-}
-
-/**
  * What changes when one goes to another record.
  * @param {Page} page
  */
@@ -99,6 +78,8 @@ export function drawStep(page) {
     showWhere(subject.trace, page.step.selected);
   }
   if (answers.decoded) drawAutomaton(page, answers.decoded);
+  showTouch(page);
+  page.stage.draw();
 }
 
 /**
@@ -169,16 +150,6 @@ function showWhere({ steps }, selected) {
   byId('back').disabled = byId('first').disabled = selected === 0;
   byId('next').disabled = byId('last').disabled = selected === last;
   byId('whole').disabled = selected === null;
-}
-
-/**
- * The state that the machine is in, and the edge that a tick took.
- * @param {Step|null} step
- */
-function litAt(step) {
-  if (!step) return {};
-  const tick = step.record.kind === 'tick' && step.after && step.before?.phase === 3;
-  return { state: machineAt(step)?.state ?? null, edge: tick && step.before ? { from: step.before.state, input: step.before.polled } : null };
 }
 
 /**

@@ -1,14 +1,16 @@
 /** What the reader does: buttons, tabs, keys, the diagram, what is dropped or pasted. */
 
-import { copyLink, showLink } from './address.js';
+import { copyFrom, showLink } from './address.js';
 import { byId, closeMenu } from './dom.js';
 import { redraw, showOther } from './drawing.js';
 import { tooLong } from './limits.js';
 import { listenToLive } from './live-controls.js';
 import { openExample, openFiles } from './opening.js';
+import { listenToStage } from './presenting.js';
 import { listSavings } from './saving.js';
 import { move, select, selectTime } from './stepping.js';
 import { run } from './toolbox.js';
+import { listenToTouch } from './touching.js';
 import { PANES } from './workspace.js';
 
 /** @typedef {import('./page.js').Page} Page */
@@ -23,6 +25,8 @@ export function listen(page) {
   listenToDrops(page);
   listenToPastes(page);
   listenToLive(page.live);
+  listenToStage(page);
+  listenToTouch(page);
 }
 
 /** @param {Page} page */
@@ -39,7 +43,8 @@ function listenToButtons(page) {
   press('open', () => byId('files').click());
   press('link', () => showLink(page));
   press('link-close', () => byId('link-box').close());
-  press('link-copy', () => copyLink());
+  press('link-copy', () => copyFrom('link-text'));
+  press('link-copy-plain', () => copyFrom('link-plain'));
   for (const look of /** @type {const} */ (['large', 'dark'])) {
     press(look, () => {
       page[look] = !page[look];

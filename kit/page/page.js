@@ -11,10 +11,12 @@ import { tooLong } from './limits.js';
 import { LivePanel } from './live.js';
 import { saidAt } from './machine.js';
 import { markTexts, showBadges, showFoot } from './marks.js';
+import { Stage } from './presenting.js';
 import { ReactionPanel } from './reaction.js';
 import { Rooms } from './rooms.js';
 import { lookAtLine } from './stepping.js';
 import { Together } from './together.js';
+import { Touching } from './touching.js';
 import { closeOld, showNothing } from './unanswered.js';
 import { PANES, ask } from './workspace.js';
 
@@ -62,12 +64,14 @@ export class Page {
     this.rooms = new Rooms();
     this.together = new Together(this);
     this.live = new LivePanel(this);
+    this.stage = new Stage(this);
+    this.touching = new Touching(this);
     /** Files and links are opened one after the other. @type {Promise<void>} */
     this.opening = Promise.resolve();
     this.reaction = new ReactionPanel(library, {
       form: byId('reaction-form'), states: byId('reaction-states'), inputs: byId('reaction-inputs'), moves: byId('reaction-moves'),
-      answer: byId('reaction-answer'),
-    }, () => drawWay(this));
+      answer: byId('reaction-answer'), slow: byId('reaction-slow'),
+    }, () => drawWay(this), { journal: () => this.texts.journal, take: (journal) => this.replace({ ...this.texts, journal }, 'journal', 'A slow run') });
   }
 
   /** @param {Pane} pane */
@@ -124,9 +128,17 @@ export class Page {
     this.put(texts, pane, title);
   }
 
-  /** The texts that are there can be brought back. */
-  remember() {
-    this.undo = [...this.undo, { texts: this.texts, title: this.title }].slice(-UNDO_MOST);
+  /** The texts that are there, or these, can be brought back. */
+  remember(before = { texts: this.texts, title: this.title }) {
+    this.undo = [...this.undo, before].slice(-UNDO_MOST);
+  }
+
+  /**
+   * Texts that came of those that are there.
+   * @param {Texts} texts @param {Pane} pane
+   */
+  change(texts, pane) {
+    this.put(texts, pane, changed(this.title));
   }
 
   /** @param {Texts} texts @param {Pane} pane @param {string} title */
@@ -206,6 +218,7 @@ export class Page {
   /** What was answered before is out of reach, before anything else can fail. Says whether the texts are others now. */
   #forget() {
     this.reaction.given = null;
+    this.reaction.slow.stop();
     clearTimeout(this.waiting.get('spoken'));
     cancelAnimationFrame(this.waiting.get('frame'));
     return this.#held.drop();

@@ -6,13 +6,17 @@ import { nameOf } from '../name-of.js';
 import { thousands } from '../names.js';
 import { members, setOf, wholeSet } from '../sets.js';
 import { fill, make } from './dom.js';
+import { SlowPanel } from './slow.js';
 
 /** @typedef {import('../types.js').Library} Library */
 /** @typedef {import('../types.js').Table} Table */
 /** @typedef {import('./workspace.js').Answers} Answers */
 
 /** @typedef {{states: number, inputs: number, moves: number}} Question */
-/** @typedef {{number: number, line: string, beside: string[], sentences: string[], path: number[]}} Answer  `number` is the refusal's, or 0 */
+/**
+ * `number` is the refusal's, or 0; `question` is there where the answer is a time.
+ * @typedef {{number: number, line: string, beside: string[], sentences: string[], path: number[], question?: Question}} Answer
+ */
 
 /** What is asked of a table first: how long one input lasts until the state is sure, over one move. */
 const FIRST = { inputs: 1, moves: 1 };
@@ -46,7 +50,7 @@ export function answerReaction(library, { bytes, table }, question) {
     number: 0, line: `at most ${thousands(time)}`,
     beside: [...(tight === undefined ? [] : [`tight ${thousands(tight)}, in whole units`]), `until: ${until}`],
     sentences: [...sayReaction(table, question.moves === 1 ? { ...question, moves: undefined } : question, said), sayPath(table, path)],
-    path,
+    path, question,
   };
 }
 
@@ -64,10 +68,12 @@ function notAsked(moves) {
 export class ReactionPanel {
   /**
    * @param {Library} library
-   * @param {{form: HTMLElement, states: Element, inputs: Element, moves: any, answer: Element}} rooms
+   * @param {{form: HTMLElement, states: Element, inputs: Element, moves: any, answer: Element, slow: Element}} rooms
    * @param {() => void} answered  the longest way may be another now
+   * @param {import('./slow.js').Journals} journals
    */
-  constructor(library, rooms, answered) {
+  constructor(library, rooms, answered, journals) {
+    this.slow = new SlowPanel(library, rooms.slow, journals);
     this.library = library;
     this.rooms = rooms;
     this.answered = answered;
@@ -133,6 +139,7 @@ export class ReactionPanel {
     const said = this.given && this.#ask(this.given);
     form.hidden = said?.number === HAS_TIMERS;
     this.path = said?.path ?? [];
+    this.slow.update(this.given, said?.question ?? null);
     if (said) {
       const words = said.beside.map((each) => make('span', { class: 'meaning' }, each));
       fill(room, make('p', { class: 'line' }, make('strong', {}, said.line), words), make('p', {}, said.sentences.join(' ')));

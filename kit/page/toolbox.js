@@ -1,6 +1,7 @@
 /** The panel of tools: those that fit what is there, and what one of them gave. */
 
-import { byId, fill, make, save } from './dom.js';
+import { byId, fill, make, save, show } from './dom.js';
+import { lookOf } from './looks.js';
 import { RUN, TOOLS } from './tools.js';
 
 /** @typedef {import('./page.js').Page} Page */
@@ -24,10 +25,14 @@ export function showTools(page) {
 
 /** @param {Page} page @param {Tool} tool */
 function use(page, tool) {
-  const { made, list = [], line, sentences } = tool.use(page.library, page.answers);
+  const { made, list = [], line, sentences, picture } = tool.use(page.library, page.answers);
+  const figure = picture && make('figure', { id: 'tool-picture' });
   fill(byId('tool-answer'), make('p', {}, make('strong', {}, `${tool.label}. `), line && `${line}. `, sentences.join(' ')),
-    list.length > 0 && make('ul', {}, ...list.map((each) => make('li', {}, lineButton(page, each)))),
+    figure, list.length > 0 && make('ul', {}, ...list.map((each) => make('li', {}, lineButton(page, each)))),
     made && make('div', { class: 'row' }, ...keeping(page, made)));
+  if (!picture) return;
+  const { scale, ...look } = lookOf(page, figure);
+  show(figure, picture(look), scale);
 }
 
 /** @param {Page} page @param {{line: number, says: string}} given */

@@ -1,6 +1,7 @@
 /** What can be done with the table and the journal beside checking: each is one function of the library, and its result can be kept. */
 
 import { refusalLine, sayConverted, saySalvage } from '../answers.js';
+import { bothRuns } from '../both-runs.js';
 import { explainJournal, explainRefusal } from '../explain.js';
 import { nameOf } from '../name-of.js';
 import { counted, say } from '../names.js';
@@ -20,6 +21,7 @@ import { traceJournal } from '../trace.js';
  * @property {string} [line]            the library's refusal
  * @property {{pane: Pane, text: string, bytes: Uint8Array, file: string}} [made]
  * @property {{line: number, says: string}[]} [list]   of the journal's lines
+ * @property {(look: {width: number, theme: 'light'|'dark'}) => string} [picture]   an SVG file
  */
 
 /**
@@ -127,7 +129,8 @@ function compare(library, answers) {
   const differ = say`${counted(count, 'record')} of the journal ${count === 1 ? 'differs' : 'differ'} from its run.`;
   const sentences = [count === 0 ? 'The run of the same inputs and times gives this very journal.'
     : say`The runtime was given the same inputs and times. ${differ}`];
-  return { sentences, list, made: journal(answers, answer.bytes, 'journal', 'run.journal') };
+  const picture = (/** @type {any} */ look) => bothRuns(trace, answer, look);
+  return { sentences, list, picture, made: journal(answers, answer.bytes, 'journal', 'run.journal') };
 }
 
 /**

@@ -3,7 +3,7 @@
 import { byId, closeMenu, empty, fill, make } from './dom.js';
 
 const SHOWS_ANSWERS = ['diagram', 'machine', 'automaton', 'where', 'step-short', 'spoken', 'tools', 'tool-answer', 'reaction-answer',
-  'reaction-picture', 'pane-says', 'live-time', 'live-says', 'save-list', 'together-list', 'paper'];
+  'reaction-slow', 'reaction-picture', 'pane-says', 'stage-picture', 'stage-says', 'touch-says', 'touch-refused', 'stage-where', 'live-time', 'live-says', 'save-list', 'together-list', 'paper'];
 const PICTURES = '#pictures, #automaton-beside, #automaton-below, #reaction-panel, #stepping';
 const OTHERS = '#tools-panel, #together, #live-panel, #run';
 
@@ -22,7 +22,7 @@ export function closeOld() {
 
 /** Pictures, and their rooms. */
 function emptyPictures() {
-  empty('diagram', 'machine', 'automaton', 'reaction-answer', 'reaction-picture');
+  empty('diagram', 'machine', 'automaton', 'reaction-answer', 'reaction-slow', 'reaction-picture');
   hide(PICTURES);
 }
 

@@ -12,8 +12,8 @@ function drive() {
   const TABLE = [1, 0, 4, 1, 1, 1, 0, 2, 0, 4, 0, 0, 0, 3, 3, 0, 1, 0, 4, 0, 1, 0, 5, 0, 4, 0, 0, 0, 0, 6, 0, 4, 0, 0, 0, 0];
   const FILES = [['t', TABLE], ['a', [16, 0, 1, 0]], ['b', [16, 0, 1, 0, 31, 0, 4, 0, 0, 0, 0]], ['c', [137, 80, 78, 71]], ['d', [32, 0, 1, 0]]];
   const TEXT = 'krossvil journal\ninput 0\n';
-  const ANSWERS = '#live-time, #live-says, #machine, #where, #step-short, #reaction-answer, #tool-answer, #together-list, #pane-says, #save-list, '
-    + '#tools, .number';
+  const ANSWERS = '#live-time, #live-says, #machine, #where, #step-short, #reaction-answer, #reaction-slow, #tool-answer, #together-list, #pane-says, '
+    + '#save-list, #tools, .number';
   const ROOMS = '#pictures, .slot, .stepping, #tools-panel, #reaction-panel, #together, #live-panel, #run';
 
   const id = (name) => document.getElementById(name);
@@ -76,6 +76,7 @@ function drive() {
     dark: () => id('dark').click(),
     print: () => window.dispatchEvent(new Event('beforeprint')),
     react: () => { const box = document.querySelector('#reaction-states input'); if (!box.checked) box.click(); box.click(); },
+    slow: async () => { id('slow').click(); await until(() => /this run|No run/.test(id('reaction-slow').textContent)); },
     example: () => example('gas-burner'),
     address: () => { location.hash = '#text=a3Jvc3N2aWwgdGFibGUK'; },
   };

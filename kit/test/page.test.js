@@ -1,7 +1,9 @@
 /** The page in a browser: typed in, stepped through, given files; it answers as the library does, and asks the network for nothing. */
 
 import assert from 'node:assert/strict';
+import { once } from 'node:events';
 import { existsSync, mkdtempSync, readFileSync, rmSync } from 'node:fs';
+import { createServer } from 'node:http';
 import { tmpdir } from 'node:os';
 import { join } from 'node:path';
 import { test } from 'node:test';
@@ -223,6 +225,9 @@ test('a journal is compared with its own run', async (t) => {
   const tab = await open(t, 'example=quarry');
   await tab.click('#tool-compare');
   assert.match(await tab.text('#tool-answer'), /2 records of the journal differ.*The test at 10 says free; in the run it is held\./s);
+  assert.equal(await tab.value("document.querySelector('#tool-picture .first-difference').dataset.record"), '17');
+  await setPane(tab, 'journal', (await paneText(tab, 'journal')).replace('10  test   free', '10  test   held'));
+  assert.equal(await tab.value("document.querySelectorAll('#tool-picture').length"), 0);
 });
 
 /** Sets the boxes and the number of moves of the reaction panel. */
@@ -269,6 +274,31 @@ test('a reaction time is asked for by names, with the tight time beside it', asy
   assert.match(await askReaction(tab, { states: 3, inputs: 3 }), /^at most 3tight 3, .*There is no state outside the target to wait in\.$/);
   assert.deepEqual(await litPath(tab), { states: [], edges: [] });
   assert.match(await askReaction(tab, { states: 1, inputs: 0 }), /never lasts for 6: no state is left to be in\./);
+});
+
+test('a slow run is put in the place of the journal, and what is said of it stands beside that journal only', async (t) => {
+  const tab = await open(t, 'example=classroom');
+  const before = await paneText(tab, 'journal');
+  for (const [inputs, slots] of [[1, 11], [2, 4]]) {
+    await askReaction(tab, { states: 3, inputs });
+    await tab.click('#slow');
+    await tab.until("/this run/.test(document.getElementById('reaction-slow').textContent)");
+    const said = await tab.text('#reaction-slow');
+    assert.match(said, new RegExp(`stay for ${slots} slots, .*So no time below ${slots + 1} is true of this table\\.$`));
+    assert.match(await tab.text(VERDICT), new RegExp(`^accepted end=${slots + 2} `));
+  }
+  const made = await paneText(tab, 'journal');
+  await setPane(tab, 'journal', `${made}# more\n`);
+  assert.equal(await tab.text('#reaction-slow'), 'Show a slow run');
+  await setPane(tab, 'journal', made);
+  assert.match(await tab.text('#reaction-slow'), /stay for 4 slots/);
+  await askReaction(tab, { states: 3, inputs: 1 });
+  assert.equal(await tab.text('#reaction-slow'), 'Show a slow run');
+  await askReaction(tab, { states: 2, inputs: 1 });
+  assert.equal(await tab.text('#reaction-slow'), '');
+  await tab.click('#undo');
+  await tab.click('#undo');
+  assert.equal(await paneText(tab, 'journal'), before);
 });
 
 test('several moves are asked for, and the worst path is lit', async (t) => {
@@ -351,14 +381,28 @@ test('the link carries the texts, and a broken one does no harm', async (t) => {
   await tab.until("location.hash.startsWith('#packed=')");
   await tab.click('#link');
   const link = await tab.value("document.getElementById('link-text').value");
+  assert.match(await tab.text('#link-box'), /opened as a file: the link works only where the same file is/);
+  const plain = await tab.value("document.getElementById('link-plain').value");
   await tab.click('#link-close');
   const other = await open(t, link.split('#')[1]);
   assert.match(await paneText(other, 'journal'), /^krossvil journal # mine\n/);
   assert.equal(await other.text(VERDICT), 'refused 28 at 76');
+  await drop(other, [['text.kv', Buffer.from(plain)]]);
+  assert.deepEqual(await Promise.all(['table', 'stimulus', 'journal'].map((pane) => paneText(other, pane))).then((texts) => texts.map((text) => text.trim())),
+    plain.split(/(?=^krossvil )/m).map((text) => text.trim()));
   for (const hash of ['packed=AAAA', 'packed=***', 'text=%%', 'example=<img src=x onerror=alert(1)>', 'text=PGltZyBzcmM9eD4']) {
     const broken = await open(t, hash);
     assert.notEqual(await broken.text(VERDICT), null, hash);
   }
+});
+
+test('where the page comes from a server the link is enough', async (t) => {
+  const server = createServer((request, response) => response.end(readFileSync(FILE))).listen(0, '127.0.0.1');
+  t.after(() => server.close());
+  await once(server, 'listening');
+  const tab = await open(t, 'example=classroom', undefined, `http://127.0.0.1:${server.address().port}/page.html`);
+  await tab.click('#link');
+  assert.equal(await tab.value("document.getElementById('link-file').checkVisibility()"), false);
 });
 
 const HOSTILE = '<img src=x onerror="window.harm=1">';
