@@ -1,10 +1,10 @@
 /** A line of a text as tokens. `#` begins a comment. */
 
 /**
- * `word` may be a keyword or a name; `name` stands in quotation marks and is never a keyword; `gap` is a number with a plus sign.
- * `column` counts from 1.
+ * `word` may be a keyword or a name; `name` stands in quotation marks and is never a keyword; `gap` is a number with a plus sign; `blank` is
+ * a question mark. `column` counts from 1.
  * @typedef {Object} Token
- * @property {'word'|'name'|'number'|'gap'|'arrow'|'comma'|'dash'} kind
+ * @property {'word'|'name'|'number'|'gap'|'arrow'|'comma'|'dash'|'blank'} kind
  * @property {string} text
  * @property {number} column
  * @property {number} width
@@ -16,7 +16,8 @@
 const NAME_MAX = 64;
 
 const WORD = '[\\p{L}\\p{M}\\p{N}_.]+(?:-[\\p{L}\\p{M}\\p{N}_.]+)*';
-const TOKEN = new RegExp(`(?<name>"[^"]*")|(?<arrow>->|→)|(?<comma>,)|(?<gap>\\+[0-9]+)|(?<word>${WORD}|-[0-9]+)|(?<dash>-)`, 'uy');
+const SIGNS = '(?<arrow>->|→)|(?<comma>,)|(?<blank>\\?)';
+const TOKEN = new RegExp(`(?<name>"[^"]*")|${SIGNS}|(?<gap>\\+[0-9]+)|(?<word>${WORD}|-[0-9]+)|(?<dash>-)`, 'uy');
 const SPACES = /\s*/uy;
 const BARE = /^[\p{L}_][\p{L}\p{M}\p{N}_.]*(?:-[\p{L}\p{M}\p{N}_.]+)*$/u;
 
@@ -25,7 +26,7 @@ const HIDDEN = /[\p{Cc}\p{Cf}\p{Cs}\p{Co}\p{Zl}\p{Zp}]/u;
 
 /** Words with a meaning of their own. A name that is one of them is written in quotation marks. */
 const KEYWORDS = new Set(['krossvil', 'table', 'stimulus', 'journal', 'stamped', 'short', 'cycle', 'inputs', 'outputs', 'start', 'timer',
-  'over', 'state', 'output', 'hold', 'delays', 'bytes', 'input', 'change', 'poll', 'test', 'tick', 'end']);
+  'over', 'state', 'output', 'hold', 'delays', 'bytes', 'input', 'change', 'poll', 'test', 'tick', 'end', 'exercise', 'told']);
 
 /**
  * What is wrong with a name; null if nothing is.
