@@ -152,7 +152,8 @@ export function sayCount({ blanks, answered, right }) {
   const left = blanks - answered;
   if (right === blanks) return blanks === 1 ? 'The answer is right.' : say`All ${blanks} answers are right.`;
   const open = left === 0 ? '' : say`; ${left} ${left === 1 ? 'is' : 'are'} not answered yet`;
-  return say`${right} of ${counted(answered, 'answer')} ${right === 1 ? 'is' : 'are'} right${open}.`;
+  if (answered === 1) return say`The first answer is ${right === 1 ? 'right' : 'wrong'}${open}.`;
+  return say`${right === 0 ? 'None' : right} of ${answered} answers ${right < 2 ? 'is' : 'are'} right${open}.`;
 }
 
 /**
