@@ -165,6 +165,8 @@
  *   visits(trace: Trace): Visit[]                   the states in the order in which they were entered
  *   regionVisits(trace: Trace, timer: number): Span[]    when a timer's region was entered and left
  *   inputs(trace: Trace): Visit[]                   the inputs at the sensor, likewise (`state` is the input's number)
+ *   isUnseen(machine: Machine): boolean             has no poll come since the input at the sensor came?
+ *   unseenInputs(trace: Trace): Visit[]             the inputs that came and went, and that no poll took
  *   ownValue(trace: Trace, step: Step): number|null what the machine has where a record was refused with 28; else null
  *
  * @typedef {{from: number, to: number|null}} Span          `to` is null where the journal does not show the end
