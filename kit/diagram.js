@@ -3,7 +3,7 @@
  * end has the class `hold-end` and its time in `data-time`; a record's mark stands in a group of class `record`, its number in `data-record`.
  */
 import { circle, group, line, picture, rect } from './svg.js';
-import { axis, hatchPattern, inputLane, names, phaseBand, stateLanes, unread } from './diagram/backdrop.js';
+import { axis, hatchPattern, inputLane, names, phaseBand, stateLanes, unread, unseen } from './diagram/backdrop.js';
 import { clockRows } from './diagram/clocks.js';
 import { cycleLimit, cycles } from './diagram/cycles.js';
 import { denseRecords } from './diagram/dense.js';
@@ -56,7 +56,7 @@ function measures({ stretch, sizes, end }) {
  * @param {number} foot   down to here goes the refused record's line
  */
 function lanesOf(view, foot) {
-  return group({ class: 'lanes' }, axis(view), names(view), phaseBand(view), inputLane(view), stateLanes(view), unread(view),
+  return group({ class: 'lanes' }, axis(view), names(view), phaseBand(view), inputLane(view), unseen(view), stateLanes(view), unread(view),
     selectedLine(view), refusedLine(view, foot), clockRows(view), view.dense ? null : cycles(view), cycleLimit(view), axisBreak(view));
 }
 

@@ -2,7 +2,7 @@
 
 import { listed, quoted, say } from './names.js';
 import { has } from './sets.js';
-import { clocks, holding, left } from './trace.js';
+import { clocks, holding, isUnseen, left } from './trace.js';
 
 /** @typedef {import('./types.js').Trace} Trace */
 /** @typedef {import('./types.js').Step} Step */
@@ -14,7 +14,9 @@ import { clocks, holding, left } from './trace.js';
  */
 function change({ names }, { record }, m) {
   const input = quoted(names.inputs, record.value ?? 0);
-  return m.present === record.value ? say`The card repeats its reading, ${input}.` : say`The input becomes ${input}.`;
+  if (m.present === record.value) return say`The card repeats its reading, ${input}.`;
+  const stood = say`${quoted(names.inputs, m.present)} stood from ${m.change === 0 ? 'the beginning' : m.change} to ${record.time}`;
+  return say`The input becomes ${input}.${isUnseen(m) ? say` ${stood}, and no poll took it: it was never seen.` : ''}`;
 }
 
 /**

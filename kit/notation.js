@@ -6,6 +6,7 @@
 import { nameFault, readLine } from './notation/lexer.js';
 import { Mistakes, didYouMean } from './notation/mistakes.js';
 import { plainNames } from './names.js';
+import { readExercise, writeExercise } from './notation/exercise.js';
 import { FORM_WORDS, readRecords, writeRecords } from './notation/records.js';
 import { readTable } from './notation/table-reader.js';
 import { writeTable } from './notation/table-writer.js';
@@ -20,7 +21,9 @@ export { FORM_WORDS, recordLine } from './notation/records.js';
 /** @typedef {import('./types.js').Part} Part */
 /** @typedef {import('./types.js').Text} Text */
 /** @typedef {import('./notation/lexer.js').Line} Line */
-/** @typedef {{kind: 'table'|Form, header: Line, body: Line[], spoilt: boolean}} Section  spoilt: a line of it could not be read */
+/** @typedef {import('./types.js').ExercisePart} ExercisePart */
+/** @typedef {'table'|'exercise'|Form} SectionKind */
+/** @typedef {{kind: SectionKind, header: Line, body: Line[], spoilt: boolean}} Section  spoilt: a line of it could not be read */
 
 /** The largest table that has its six fields takes 4,300,000 with plain names. */
 export const TEXT_MAX = 6000000;
@@ -32,9 +35,9 @@ const NONE = plainNames({ states: 0, inputs: 0, outputs: 0 }, 0);
 
 /**
  * What may follow the word `krossvil`.
- * @type {Map<string, 'table'|Form>}
+ * @type {Map<string, SectionKind>}
  */
-const KINDS = new Map([['table', 'table']]);
+const KINDS = new Map([['table', 'table'], ['exercise', 'exercise']]);
 for (const form of /** @type {Form[]} */ (Object.keys(FORM_WORDS))) KINDS.set(FORM_WORDS[form], form);
 
 /** The first byte of a text: of the word, or of a mark of UTF-8 before it. */
@@ -79,8 +82,8 @@ function sectionOf(header, sections, mistakes) {
   const given = words.map((token) => token.text).join(' ');
   const kind = KINDS.get(given);
   if (!kind) {
-    const says = `after 'krossvil' comes table, stimulus, journal, stamped journal or short journal${didYouMean(given, [...KINDS.keys()])}`;
-    mistakes.add(header.number, words[0] ?? header.tokens[0], says);
+    const says = `after 'krossvil' comes table, stimulus, journal, stamped journal, short journal or exercise`;
+    mistakes.add(header.number, words[0] ?? header.tokens[0], says + didYouMean(given, [...KINDS.keys()]));
     return null;
   }
   if (sections.some((section) => section.kind === kind)) {
@@ -122,13 +125,22 @@ function sectionsOf(lines, mistakes) {
 
 /**
  * @param {Section} section @param {Reading} reading
- * @returns {Part|null}  null if it has a mistake
+ * @returns {Part|ExercisePart}
+ */
+function readPart({ kind, header, body, spoilt }, reading) {
+  if (kind === 'exercise') return readExercise(reading, header, body);
+  const read = kind === 'table' ? readTable(reading, header, body, !spoilt) : readRecords(reading, body, kind);
+  return { kind, line: header.number, bytes: read.bytes, origins: read.origins };
+}
+
+/**
+ * @param {Section} section @param {Reading} reading
+ * @returns {Part|ExercisePart|null}  null if it has a mistake
  */
 function partOf(section, reading) {
-  const { kind, header, body, spoilt } = section;
   const before = reading.mistakes.count;
-  const { bytes, origins } = kind === 'table' ? readTable(reading, header, body, !spoilt) : readRecords(reading, body, kind);
-  return reading.mistakes.count > before || spoilt ? null : { kind, line: header.number, bytes, origins };
+  const part = readPart(section, reading);
+  return reading.mistakes.count > before || section.spoilt ? null : part;
 }
 
 /**
@@ -141,15 +153,17 @@ export function readText(source, names = null) {
   const { lines, mistake, line } = linesOf(source);
   if (mistake) {
     mistakes.add(line ?? 1, null, mistake);
-    return { parts: [], names, mistakes: mistakes.sorted(), lines };
+    return { parts: [], exercise: null, names, mistakes: mistakes.sorted(), lines };
   }
   const sections = sectionsOf(lines, mistakes);
   const reading = new Reading(mistakes, names);
   if (mistakes.count > 0) reading.distrust();
   const tableFirst = [...sections].sort((a, b) => Number(b.kind === 'table') - Number(a.kind === 'table'));
-  const parts = tableFirst.map((section) => partOf(section, reading)).filter((part) => part !== null);
+  const read = tableFirst.map((section) => partOf(section, reading));
   if (sections.length === 0 && mistakes.count === 0) mistakes.add(1, null, 'the text is empty; it begins as in: krossvil table');
-  return { parts: /** @type {Part[]} */ (parts), names: reading.names, mistakes: mistakes.sorted(), lines };
+  const parts = /** @type {Part[]} */ (read.filter((part) => part !== null && part.kind !== 'exercise'));
+  const exercise = /** @type {ExercisePart|null} */ (read.find((part) => part?.kind === 'exercise') ?? null);
+  return { parts, exercise, names: reading.names, mistakes: mistakes.sorted(), lines };
 }
 
 /**
@@ -180,8 +194,17 @@ export function recordsText(bytes, form, names, notes) {
 }
 
 /**
+ * An exercise as a text, with what was answered so far.
+ * @param {Pick<ExercisePart, 'told'|'bytes'> & {blanks: Pick<import('./types.js').Blank, 'record'|'answer'>[]}} exercise
+ * @param {Names|null} [names]
+ */
+export function exerciseText(exercise, names) {
+  return writeExercise(exercise, names && writable(names) ? names : NONE);
+}
+
+/**
  * The smallest piece of the text that gave the byte at a place. Behind the last byte it is the last line.
- * @param {Part} part @param {number} place
+ * @param {Pick<Part, 'bytes'|'origins'>} part @param {number} place
  * @returns {Origin|null}
  */
 export function originAt(part, place) {

@@ -260,6 +260,24 @@ export function inputs(trace) {
 }
 
 /**
+ * Has no poll come since the input at the sensor came? A poll is later than the last change.
+ * @param {Machine} machine
+ */
+export function isUnseen({ polledAt, change }) {
+  return polledAt <= change;
+}
+
+/**
+ * The inputs that came and went, or that stood at the beginning and went, and that no poll took. The last one may still be seen.
+ * @param {Trace} trace
+ * @returns {(Visit & {to: number})[]}
+ */
+export function unseenInputs(trace) {
+  return accepted(trace).flatMap(({ before, after, record }) => (before && after && before.present !== after.present && isUnseen(before)
+    ? [{ state: before.present, from: before.change, to: record.time }] : []));
+}
+
+/**
  * When a timer's region was entered from outside, and when it was left.
  * @param {Trace} trace @param {number} timer
  * @returns {Span[]}

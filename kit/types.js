@@ -165,6 +165,8 @@
  *   visits(trace: Trace): Visit[]                   the states in the order in which they were entered
  *   regionVisits(trace: Trace, timer: number): Span[]    when a timer's region was entered and left
  *   inputs(trace: Trace): Visit[]                   the inputs at the sensor, likewise (`state` is the input's number)
+ *   isUnseen(machine: Machine): boolean             has no poll come since the input at the sensor came?
+ *   unseenInputs(trace: Trace): Visit[]             the inputs that came and went, and that no poll took
  *   ownValue(trace: Trace, step: Step): number|null what the machine has where a record was refused with 28; else null
  *
  * @typedef {{from: number, to: number|null}} Span          `to` is null where the journal does not show the end
@@ -230,6 +232,27 @@
  */
 
 /**
+ * A value that is asked in an exercise.
+ * @typedef {Object} Blank
+ * @property {number} record         the number of its record
+ * @property {Kind} kind             of that: poll, test or tick
+ * @property {number} place          of its byte in the journal
+ * @property {number|null} answer    what somebody has answered; null if nothing
+ * @property {Origin} origin         the piece of the text that it stands in
+ */
+
+/**
+ * An exercise in a text: a journal with blanks. The bytes have the answers, or 0 where there is none: they are nobody's journal.
+ * @typedef {Object} ExercisePart
+ * @property {'exercise'} kind
+ * @property {number} line           where its first line stands
+ * @property {'each'|'end'} told     when it is told what is right: at each answer, or at the end
+ * @property {Uint8Array} bytes
+ * @property {Origin[]} origins
+ * @property {Blank[]} blanks
+ */
+
+/**
  * notation.js exports
  *   isText(data: Uint8Array|string): boolean        does it begin with the word `krossvil`?
  *   readText(source: Uint8Array|string, names?: Names|null): Text
@@ -237,12 +260,14 @@
  *   recordsText(bytes: Uint8Array, form: Form, names?: Names|null, notes?: Map<number, string>): string
  *       `notes`: a comment for the record at a place
  *   recordLine(record: Record, names: Names, width?: number): string     one record as a line
+ *   exerciseText(exercise: {told, bytes, blanks}, names?: Names|null): string     with what was answered so far
  *   originAt(part: Part, place: number): Origin|null     the smallest piece of text that gave the byte at the place
  *   showMistakes(text: Text, file?: string): string      file:line:column, the line, a caret
  *   FORM_WORDS: the forms in a text's words, as `short journal`
  *
  * @typedef {Object} Text
  * @property {Part[]} parts              those that could be read
+ * @property {ExercisePart|null} exercise  it is no part: nobody is to take it for a journal
  * @property {Names|null} names          those of the table in the text, or those that were given
  * @property {Mistake[]} mistakes        none if the text is sound
  * @property {string[]} lines
@@ -268,6 +293,12 @@
  * slow.js exports
  *   timesOf(library: Library, table: Uint8Array, question): the library's times;  class SlowRun: a search, go(milliseconds) and found()
  *   saySlow(names: Names, search: SlowRun, slow): string[]
+ * exercise.js exports
+ *   makeExercise(library, {table, stimulus}, {kinds?, told?}): {ok: true, asked: Asked} | Refused     what is asked, without answers
+ *   openExercise(library, {table, names?}, asked: Asked): {ok: true, exercise: Exercise} | {ok: false, sentences, place, refusal}
+ *   grade(library, exercise: Exercise): Grade;  sayCount(grade), sayMachines(grade): what is said of the answers
+ *   exercise/about.js: exerciseAbout(library, tableBytes, topic, {seed, cycles?, kinds?, told?}), whyNot(table, topic), topicOf(name)
+ *   exercise/topics.js: TOPICS;  exercise/wrong-rules.js: WRONG_RULES, answersOf
  * names.js: plainNames, fittingNames, quoted, listed, counted, numbered, thousands; sets.js: has, members, setOf, wholeSet
  * examples.js: EXAMPLES, exampleFile
  */

@@ -27,6 +27,12 @@ export const OPTIONS = {
   scale: { type: 'string', value: 'N', says: 'divide all times by N, where they can be divided' },
   seconds: { type: 'string', value: 'N', says: 'search for at most so long; 10 if left out' },
   follow: { type: 'boolean', says: 'read on while the file grows, up to the end record' },
+  about: { type: 'string', value: 'TOPIC', says: 'poll, entry, delayed, passed, test, change or region: the rule that the exercise is about' },
+  seed: { type: 'string', value: 'N', says: 'draws the same exercise again; by chance if left out' },
+  length: { type: 'string', value: 'CYCLES', says: 'how many cycles are drawn; as many as the table needs if left out' },
+  blank: { type: 'string', value: 'KINDS', says: 'what is asked: poll, test, tick with commas between; all three if left out' },
+  told: { type: 'string', value: 'WHEN', says: 'each or end: whether it is told at each answer what is right, or at the end; each if left out' },
+  answers: { type: 'string', value: 'FILE', says: 'the exercise as it was filled in, or a journal with words in the place of the question marks' },
   unit: { type: 'string', value: 'TIME', says: 'how long one unit is: 1 ms if left out; 1, 10 or 100 of s, ms, us, ns, ps or fs' },
 };
 

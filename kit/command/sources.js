@@ -3,6 +3,7 @@
 import { FORMS, decodeTable, formOf } from '../fields.js';
 import { listed, plainNames } from '../names.js';
 import { FORM_WORDS, TEXT_MAX, isText, readText, showMistakes } from '../notation.js';
+import { stimulusOf } from '../rerun.js';
 import { noText } from './looks.js';
 import { beginningOf, gathered, withHead } from './pieces.js';
 import { Trouble } from './trouble.js';
@@ -24,6 +25,11 @@ import { Trouble } from './trouble.js';
  */
 
 /** @typedef {Source & {names: Names|null}} TableSource   null where the table comes from bytes and no names are given */
+
+/**
+ * A file that may have an exercise; if it has none, it has a stimulus.
+ * @typedef {{file: string, text: Text|null, part: import('../types.js').ExercisePart|null, stimulus: () => Source}} GivenExercise
+ */
 
 /** Of a table what stands behind this changes no answer of the library. */
 const TABLE_READ = 70000;
@@ -156,6 +162,22 @@ export class Sources {
   }
 
   /**
+   * The exercise in a file, or in the table's own text; if there is none, the stimulus.
+   * @param {string|undefined} file @param {TableSource} table
+   * @returns {GivenExercise}
+   */
+  exercise(file, table) {
+    const own = file === undefined;
+    if (own && !table.text) throw new Trouble(`${shownFile(table.file)}: these are bytes; name a stimulus or an exercise too`);
+    const data = own ? null : this.read(file);
+    const bytes = data && !isText(data) ? data : null;
+    const name = file ?? table.file;
+    const text = bytes ? null : data ? this.text(name, data, namesFor(table)) : table.text;
+    const stimulus = () => (text ? stimulusIn(name, text) : bytesSource(name, bytes ?? new Uint8Array(), 'stimulus'));
+    return { file: name, text, part: text?.exercise ?? null, stimulus };
+  }
+
+  /**
    * The parts of the table's own text.
    * @param {TableSource} table @param {readonly Form[]} forms @param {Form|null} as
    * @returns {Source[]}
@@ -195,6 +217,17 @@ function partsOf(file, text, forms, as) {
   const parts = text.parts.filter(({ kind }) => wanted.some((form) => form === kind));
   if (parts.length === 0) throw new Trouble(`${shownFile(file)}: there is no ${listed(wanted.map(wordOf), 'or')} in this text`);
   return parts.map((part) => ({ file, form: /** @type {Form} */ (part.kind), bytes: part.bytes, part, text }));
+}
+
+/**
+ * The stimulus of a text, or what is left of its journal without the values that the machine finds.
+ * @param {string} file @param {Text} text
+ * @returns {Source}
+ */
+function stimulusIn(file, text) {
+  const journal = text.parts.some(({ kind }) => kind === 'stimulus') ? null : text.parts.find(({ kind }) => kind === 'journal');
+  const bytes = journal && stimulusOf(journal.bytes, 'journal');
+  return bytes ? { file, form: 'stimulus', bytes, part: null, text: null } : partsOf(file, text, ['stimulus'], null)[0];
 }
 
 /**

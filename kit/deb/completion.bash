@@ -30,6 +30,12 @@ _krossvil() {
         _krossvil_words 'table journal short stamped stimulus' "$word"
     elif [ "$before" = --show ]; then
         _krossvil_words '@SHOWN@' "$word"
+    elif [ "$before" = --about ]; then
+        _krossvil_words '@TOPICS@' "$word"
+    elif [ "$before" = --blank ]; then
+        _krossvil_words 'poll test tick' "$word"
+    elif [ "$before" = --told ]; then
+        _krossvil_words 'each end' "$word"
     elif [[ $before == --from || $before == --while ]]; then
         _krossvil_names "$1" "$before" "$word"
     elif [[ $word == -* ]]; then

@@ -4,6 +4,7 @@ import { readFileSync } from 'node:fs';
 import { COMMANDS } from '../command/commands.js';
 import { EXITS, FILES, GROUPS, optionWords, optionsOf, usage } from '../command/help.js';
 import { COMMON, OPTIONS } from '../command/options.js';
+import { TOPICS } from '../exercise/topics.js';
 import { SHOWN } from '../table-picture.js';
 
 /** As text of a manual page: backslashes, hyphens and a dot or an apostrophe that begins a line. */
@@ -43,7 +44,8 @@ export function completion() {
   const names = Object.keys(COMMANDS);
   const options = names.map((name) => `${name}) options='${optionsOf(name).flatMap(words).join(' ')}' ;;`);
   return readFileSync(new URL('completion.bash', import.meta.url), 'utf8')
-    .replaceAll('@COMMANDS@', names.join(' ')).replace('@SHOWN@', SHOWN.join(' ')).replace('@OPTIONS@', options.join('\n    '));
+    .replaceAll('@COMMANDS@', names.join(' ')).replace('@SHOWN@', SHOWN.join(' '))
+    .replace('@TOPICS@', TOPICS.map(({ name }) => name).join(' ')).replace('@OPTIONS@', options.join('\n    '));
 }
 
 const [what] = process.argv.slice(2);

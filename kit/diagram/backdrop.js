@@ -8,6 +8,7 @@ import { nameOf } from '../name-of.js';
 import { thousands } from '../names.js';
 import { has } from '../sets.js';
 import { inTurn } from '../theme.js';
+import { unseenInputs } from '../trace.js';
 import { boxesOf, columnsOf, runsOf } from './runs.js';
 import { presentOf, timeOf, refusedStep } from './view.js';
 
@@ -158,6 +159,35 @@ export function inputLane(view) {
 }
 
 /**
+ * The stretches of the input that no poll took, hatched. In a crowded picture they have no words.
+ * @param {View} view
+ */
+export function unseen(view) {
+  const { trace, lanes: { input }, stretch, hatch, x } = view;
+  const [first, last] = [stretch.from, Math.min(stretch.to, stretch.known)];
+  const seen = unseenInputs(trace).map((run) => ({ ...run, value: 1, left: Math.max(run.from, first), right: Math.min(run.to, last) }));
+  const runs = seen.filter(({ left, right }) => right > left);
+  if (!view.dense) return group({ class: 'unseen' }, runs.map((run) => unseenStretch(view, run, x(run.left), x(run.right) - x(run.left))));
+  const pieces = columnsOf(runs.map(({ left, right, value }) => ({ from: left, to: right, value })), x, 1.5);
+  return path(boxesOf(pieces, input.y, input.height), { fill: `url(#${hatch}-unseen)`, class: 'unseen' });
+}
+
+/**
+ * The hatching leaves the input's name free. Whoever points at it reads what it means.
+ * @param {View} view @param {import('../types.js').Visit & {to: number}} run @param {number} left @param {number} width
+ */
+function unseenStretch(view, { state, from, to }, left, width) {
+  const { trace, lanes: { input }, sizes, hatch, options } = view;
+  const name = nameOf(trace.names.inputs, state);
+  const later = options.step && to > (trace.steps[options.selected ?? 0]?.record.time ?? 0);
+  const free = fit(name, width - 8, sizes.text) === '' ? 0 : sizes.text * 1.4;
+  const strip = (input.height - free) / 2;
+  return group({ opacity: later ? 0.25 : null, 'data-from': from, 'data-to': to },
+    element('title', {}, `${name}, from ${thousands(from)} to ${thousands(to)}: no poll took it, it was never seen`),
+    [input.y, input.y + input.height - strip].map((y) => rect(left, y, width, strip, { fill: `url(#${hatch}-unseen)` })));
+}
+
+/**
  * Where the controller is in its cycle. In a crowded picture cycles are too short to see.
  * @param {View} view
  */
@@ -186,8 +216,11 @@ export function stateLanes(view) {
  * @param {View} view
  */
 export function hatchPattern({ hatch, theme }) {
-  const attributes = { id: hatch, width: 9, height: 9, patternUnits: 'userSpaceOnUse', patternTransform: 'rotate(45)' };
-  return element('defs', {}, element('pattern', attributes, line(0, 0, 0, 9, theme.grid, 3)));
+  const units = { patternUnits: 'userSpaceOnUse' };
+  const unread = { id: hatch, width: 9, height: 9, ...units, patternTransform: 'rotate(45)' };
+  const unseen = { id: `${hatch}-unseen`, width: 7, height: 7, ...units, patternTransform: 'rotate(-45)' };
+  return element('defs', {}, element('pattern', unread, line(0, 0, 0, 9, theme.grid, 3)),
+    element('pattern', unseen, line(0, 0, 0, 7, theme.quiet, 1.6)));
 }
 
 /**

@@ -4,6 +4,7 @@ import { circle, group, line, rect, text } from '../svg.js';
 import { firstThatFits, widthOf, wrap } from '../text-width.js';
 import { nameOf } from '../name-of.js';
 import { counted, thousands } from '../names.js';
+import { unseenInputs } from '../trace.js';
 
 /** @typedef {import('./view.js').View} View */
 /** @typedef {import('../types.js').Trace} Trace */
@@ -67,10 +68,12 @@ function legendEntries({ theme, lanes, trace, hatch, dense }) {
     { words: ['tests that are free', 'free tests'], sign: stroke(theme.free) }];
   /** @type {Entry} */
   const delayed = { words: ['input delayed in this state', 'input delayed'], sign: (x, y) => rect(x, y - 8, 20, 7, { fill: theme.heldFill }) };
+  const never = unseenInputs(trace).length > 0 ? [{ words: ['seen by no poll', 'never seen'], sign: swatch(`url(#${hatch}-unseen)`) }] : [];
   return [
     ...(dense ? tests : PHASES.map((words, phase) => ({ words, sign: swatch(theme.phases[phase]) }))),
     ...(lanes.clocks.length > 0 ? [delayed] : []),
     ...(lanes.clocks.length > 0 && !dense ? [{ words: ['a test here is still held', 'here still held'], sign: dot }] : []),
+    ...never,
     ...(trace.refused !== null ? [{ words: ['not read any more', 'not read'], sign: swatch(`url(#${hatch})`) }] : []),
   ];
 }

@@ -5,7 +5,7 @@
 
 import { has } from '../sets.js';
 import { clocks } from '../trace.js';
-import { RULES, holds, openMind, write } from './machine.js';
+import { RULES, holds, nextTicks, openMind, write } from './machine.js';
 import { SLIPS } from './slips.js';
 
 /** @typedef {import('../types.js').Trace} Trace */
@@ -41,20 +41,6 @@ function inTurn(table, [opening, ...records]) {
     turn = NEXT.get(kind) ?? turn;
     return true;
   });
-}
-
-/**
- * For each record the time of the next tick; its own if there is none.
- * @param {JournalRecord[]} records
- */
-function nextTicks(records) {
-  const ticks = records.map(({ time }) => time);
-  let tick = null;
-  for (let k = records.length - 1; k >= 0; k--) {
-    if (records[k].kind === 'tick') tick = records[k].time;
-    ticks[k] = tick ?? ticks[k];
-  }
-  return ticks;
 }
 
 /**

@@ -1,10 +1,10 @@
 /** A line of a text as tokens. `#` begins a comment. */
 
 /**
- * `word` may be a keyword or a name; `name` stands in quotation marks and is never a keyword; `gap` is a number with a plus sign.
- * `column` counts from 1.
+ * `word` may be a keyword or a name; `name` stands in quotation marks and is never a keyword; `gap` is a number with a plus sign; `blank` is
+ * a question mark. `column` counts from 1.
  * @typedef {Object} Token
- * @property {'word'|'name'|'number'|'gap'|'arrow'|'comma'|'dash'} kind
+ * @property {'word'|'name'|'number'|'gap'|'arrow'|'comma'|'dash'|'blank'} kind
  * @property {string} text
  * @property {number} column
  * @property {number} width
@@ -23,8 +23,9 @@ const SPACES = /\s*/uy;
  */
 function makePatterns() {
   const word = '[\\p{L}\\p{M}\\p{N}_.]+(?:-[\\p{L}\\p{M}\\p{N}_.]+)*';
+  const signs = '(?<arrow>->|→)|(?<comma>,)|(?<blank>\\?)';
   return {
-    token: new RegExp(`(?<name>"[^"]*")|(?<arrow>->|→)|(?<comma>,)|(?<gap>\\+[0-9]+)|(?<word>${word}|-[0-9]+)|(?<dash>-)`, 'uy'),
+    token: new RegExp(`(?<name>"[^"]*")|${signs}|(?<gap>\\+[0-9]+)|(?<word>${word}|-[0-9]+)|(?<dash>-)`, 'uy'),
     bare: /^[\p{L}_][\p{L}\p{M}\p{N}_.]*(?:-[\p{L}\p{M}\p{N}_.]+)*$/u,
     // What cannot be seen: control characters, those that turn the direction of writing, those of no width, separators of lines.
     hidden: /[\p{Cc}\p{Cf}\p{Cs}\p{Co}\p{Zl}\p{Zp}]/u,
@@ -38,7 +39,7 @@ const patterns = () => (made ??= makePatterns());
 
 /** Words with a meaning of their own. A name that is one of them is written in quotation marks. */
 const KEYWORDS = new Set(['krossvil', 'table', 'stimulus', 'journal', 'stamped', 'short', 'cycle', 'inputs', 'outputs', 'start', 'timer',
-  'over', 'state', 'output', 'hold', 'delays', 'bytes', 'input', 'change', 'poll', 'test', 'tick', 'end']);
+  'over', 'state', 'output', 'hold', 'delays', 'bytes', 'input', 'change', 'poll', 'test', 'tick', 'end', 'exercise', 'told']);
 
 /**
  * What is wrong with a name; null if nothing is.

@@ -14,6 +14,7 @@ import { behind, origin } from './reading.js';
 /** @typedef {import('./lexer.js').Token} Token */
 /** @typedef {import('./reading.js').Reading} Reading */
 /** @typedef {import('./reading.js').What} What */
+/** @typedef {import('../types.js').Blank} Blank */
 
 /**
  * The forms in a text's words, after `krossvil`.
@@ -29,6 +30,9 @@ const VALUES = { input: 'input', change: 'input', poll: 'input', test: 'verdict'
 const TIMED = ['change', 'poll', 'test', 'tick', 'end'];
 const MISSING = new Map([['change', 'the new input'], ['poll', 'the input polled'], ['test', 'its verdict, held or free'],
   ['tick', 'the state afterwards']]);
+
+/** What can be asked: the kinds whose value the machine finds. */
+export const ASKED = /** @type {Kind[]} */ (['poll', 'test', 'tick']);
 
 const BYTES_IN_LINE = 16;
 const NOTE_COLUMN = 28;
@@ -86,6 +90,25 @@ function readKind(reading, line, form) {
 }
 
 /**
+ * A value that is asked, and behind it perhaps what somebody has answered.
+ * @param {Reading} reading @param {Line} line @param {Kind} kind @param {number} at @param {boolean} asks  may something be asked here?
+ * @returns {number|null}
+ */
+function readAsked(reading, line, kind, at, asks) {
+  const [mark, answer] = line.tokens.slice(at);
+  if (!asks) {
+    reading.mistakes.once('asked', line.number, mark, () => 'a value that is asked, ?, stands in an exercise only: krossvil exercise');
+  } else if (!ASKED.includes(kind)) {
+    const itself = `${kind === 'change' ? 'a' : 'an'} ${kind} says it itself`;
+    reading.mistakes.add(line.number, mark, `what can be asked is what a poll saw, what a test says or where a tick leads; ${itself}`);
+  } else {
+    reading.tooMany(line, line.tokens[at + 2]);
+    return answer ? reading.member(line, answer, /** @type {What} */ (VALUES[kind])) : null;
+  }
+  return null;
+}
+
+/**
  * The value at a token, where the kind has one in this form.
  * @param {Reading} reading @param {Line} line @param {Form} form @param {Kind} kind @param {number} at
  */
@@ -105,11 +128,12 @@ function readValue(reading, line, form, kind, at) {
 }
 
 /**
- * A line's bytes, and which of its tokens gave which of them.
+ * A line's bytes, and which of its tokens gave which of them. Where a value is asked, its byte is the answer, or 0.
  * @param {Reading} reading @param {Line} line @param {Form} form @param {number} place
+ * @param {((blank: Omit<Blank, 'record'>) => void)|null} [asks]  in an exercise: what takes a blank
  * @returns {{bytes: number[], origins: Origin[]}}
  */
-function readRecord(reading, line, form, place) {
+export function readRecord(reading, line, form, place, asks = null) {
   const first = line.tokens[0];
   const whole = (/** @type {number[]} */ bytes) => origin(place, bytes.length, line);
   if (first.kind === 'word' && first.text === 'bytes') {
@@ -121,10 +145,14 @@ function readRecord(reading, line, form, place) {
   const kind = opens ? 'input' : written === null ? null : readKind(reading, line, form);
   if (written === null || kind === null) return { bytes: [], origins: [] };
   const at = opens ? 1 : 2;
-  const bytes = recordBytes(form, kind, written, readValue(reading, line, form, kind, at));
+  const asked = line.tokens[at]?.kind === 'blank';
+  const answer = asked ? readAsked(reading, line, kind, at, asks !== null) : null;
+  const bytes = recordBytes(form, kind, written, asked ? answer ?? 0 : readValue(reading, line, form, kind, at));
   const origins = [whole(bytes)];
+  const valued = place + bytes.length - 1;
   if (!opens) origins.push(origin(place + 3, FORMS[form].width, line, [first]));
-  if (line.tokens[at]) origins.push(origin(place + bytes.length - 1, 1, line, [line.tokens[at]]));
+  if (line.tokens[at]) origins.push(origin(valued, 1, line, asked ? line.tokens.slice(at) : [line.tokens[at]]));
+  if (asked) asks?.({ kind, place: valued, answer, origin: origins[origins.length - 1] });
   return { bytes, origins };
 }
 
@@ -168,7 +196,7 @@ export function memberText(list, k) {
 /**
  * @param {JournalRecord} record @param {Names} names
  */
-function valueText(record, names) {
+export function valueText(record, names) {
   if (record.value === null) return '';
   const what = VALUES[record.kind];
   return memberText(what === 'state' ? names.states : what === 'verdict' ? ['held', 'free'] : names.inputs, record.value);

@@ -143,7 +143,7 @@ const MISTAKES = [
   ['    train    -> busy\n\nkrossvil', '    train    ->\n\nkrossvil', 16, 14, 'an arrow is written: input -> state'],
   ['state idle\n    output N', '    output N', 7, 5, "'output' belongs under a state"],
   ['krossvil journal', 'krossvil jornal', 36, 10,
-    "after 'krossvil' comes table, stimulus, journal, stamped journal or short journal; did you mean 'journal'?"],
+    "after 'krossvil' comes table, stimulus, journal, stamped journal, short journal or exercise; did you mean 'journal'?"],
   ['krossvil journal', 'krossvil stimulus', 36, 10, 'a second stimulus in one text'],
   ['krossvil table', 'table', 1, 1, 'a text begins with the word krossvil and what follows, as in: krossvil table'],
   [' 2  test   free ', ' 2  test   fre ', 40, 12, "there is no verdict 'fre'; did you mean 'free'?"],
