@@ -1,5 +1,6 @@
 /* Times the library and plain C (host/plain.c) on the same bytes, as docs/SPEED.md says. With the argument `count` it calls each
- * once, between marks, and prints each job's name and bytes: for an emulator that logs every instruction. */
+ * once, between marks, and prints each job's name and bytes: for an emulator that logs every instruction. Words behind `count` pick
+ * the lines that begin with one of them; the inputs are those of all lines. */
 #include "krossvil.h"
 #include "plain.h"
 
@@ -317,6 +318,16 @@ static int ascending(const void *a, const void *b)
 }
 
 static bool counting;
+static char **picked;
+static int picks;
+
+static bool is_picked(const char *name)
+{
+    for (int k = 0; k < picks; k++)
+        if (strncmp(name, picked[k], strlen(picked[k])) == 0)
+            return true;
+    return picks == 0;
+}
 
 /* In a log of instructions, this name stands before the library's call, between the two, and behind plain C's. */
 __attribute__((noinline)) static void mark(void)
@@ -327,6 +338,8 @@ __attribute__((noinline)) static void mark(void)
 static void count(const char *name, enum job job)
 {
     uint8_t answer[KROSSVIL_JOURNAL_ANSWER];
+    if (!is_picked(name))
+        return;
     mark();
     sink = call(job, true, &inputs[0], answer);
     mark();
@@ -435,7 +448,9 @@ static void live(uint32_t count, uint32_t timers)
 
 int main(int argc, char **argv)
 {
-    counting = argc == 2 && strcmp(argv[1], "count") == 0;
+    counting = argc >= 2 && strcmp(argv[1], "count") == 0;
+    picked = argv + 2;
+    picks = counting ? argc - 2 : 0;
     if (!counting)
         printf("%-34s %7s %10s %8s %10s %8s   %s\n", "", "bytes", "library ns", "MB/s", "plain ns", "MB/s",
                "library / plain C");
