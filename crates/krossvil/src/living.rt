@@ -1,6 +1,10 @@
 // Live runs: one event or one record at a time, over a memory that the host keeps.
 ghost use mathlib.Core.Path.{_≡_};
-ghost use lib.ListN.{length};
+ghost use mathlib.Core.List.{_++_};
+ghost use Prim.Native.Nat.{_*_, _≤_};
+ghost use lib.ListN.{length, drop};
+ghost use Rattle.wire.specs.Reply as Reply;
+ghost use Rattle.table.specs.Encode.{words};
 ghost use Rattle.live.specs.Answer as live-answer;
 ghost use Rattle.krossvil.specs.Host.{told, codeOf, answerAfter, liveTold, liveRecord, liveKeeps, watchTold, watchKeeps};
 ghost use Rattle.krossvil.specs.Small.{Refusing};
@@ -8,10 +12,34 @@ use crate::checking::ACCEPTED_ANSWER;
 use crate::checking::in_order;
 use crate::telling::code;
 use crate::telling::room_beside;
-use crate::telling::tell;
+use wire::put_swapped32;
 
 // Bytes of answer that a live run needs: six numbers.
 const LIVE_ANSWER: usize = 24;
+
+// What is told of a live run, as `telling` does it, but with each number turned round: in a call as short as these it counts.
+fn put_swapped(numbers: &[u32], out: &mut [u8])
+    requires { ⌜ 4 * length (now numbers) ≤ length (now out) ⌝ }
+    ensures { λ _. ⌜ now (out .exit) ≡ words (now (numbers .entry)) ++ drop (4 * length (now (numbers .entry))) (now (out .entry)) ⌝ }
+{
+    let mut k = 0;
+    while k < numbers.len() {
+        put_swapped32(out, 4 * k, numbers[k]);
+        k += 1;
+    }
+}
+
+fn tell_swapped(numbers: &[u32], answer: &mut [u8]) -> u64
+    requires { ⌜ length (now numbers) ≤ 8 ⌝ }
+    ensures code { λ r. ⌜ r ≡ codeOf (told (Reply.gives (now (numbers .entry))) (length (now (answer .entry)))) ⌝ }
+    ensures bytes { λ _. ⌜ now (answer .exit) ≡ answerAfter (told (Reply.gives (now (numbers .entry))) (length (now (answer .entry)))) (now (answer .entry)) ⌝ }
+{
+    if answer.len() < 4 * numbers.len() {
+        return code(30, 0);
+    }
+    put_swapped(numbers, answer);
+    0
+}
 
 #[no_mangle]
 pub extern "C" fn krossvil_live(
@@ -38,7 +66,7 @@ pub extern "C" fn krossvil_live(
         } => {
             let bytes = size as u32;
             let numbers = [bytes, state, output, phase, left, deadline];
-            tell(&numbers, answer)
+            tell_swapped(&numbers, answer)
         }
         live::Live::Not(refusal) => code(refusal.number(), refusal.place()),
     }
@@ -52,7 +80,7 @@ fn tell_watched(done: live::Watched, answer: &mut [u8]) -> u64
     match done {
         live::Watched::Taken(n) => {
             let numbers = in_order(n);
-            tell(&numbers, answer)
+            tell_swapped(&numbers, answer)
         }
         live::Watched::Not(refusal) => code(refusal.number(), refusal.place()),
     }

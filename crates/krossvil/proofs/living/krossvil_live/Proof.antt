@@ -37,7 +37,7 @@ returns c =
     let args = begins took .args in
     let did = took .take-event .ensures in
     let owed = success-owed (live-writer (args .table .now) (args .memory .now) (args .event .now)) (args .out .now) (args .answer .now) lent (did .0, did .1 .0)
-    (judged .size .given .1) (c .before .before .tell .ensures)
+    (judged .size .given .1) (c .before .before .tell-swapped .ensures)
     in
     (owed .0, (owed .1 .0, (owed .1 .1, live-kept (args .table .now) (args .memory .now) (args .event .now) (args .out .now) (args .answer .now) _ lent (did .1 .1))))
 

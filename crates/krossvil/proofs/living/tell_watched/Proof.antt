@@ -21,7 +21,7 @@ returns c =
     let ordered = c .before .before .before .before .before in
     let start = ordered .before .before .before .before .before in
     owed-same watchReply (start .args .done) _ _ refl (ap gives (ordered .in-order .ensures) ∙ sym (ap watchReply (ordered .before .before .done .given .1)))
-    (start .args .answer .now) _ _ (c .before .before .tell .ensures)
+    (start .args .answer .now) _ _ (c .before .before .tell-swapped .ensures)
 
 returns-2 : tie.Need-returns-2
 returns-2 c =
