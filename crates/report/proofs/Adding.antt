@@ -1,13 +1,10 @@
 -- The entries, outcome by outcome: what the code makes is what the definition says.
-use mathlib.Core.Path.{_≡_, refl, sym, ap, _∙_}
-use mathlib.Core.List.{List, [], _∷_, _++_}
-use mathlib.Core.Bool.{Bool, true, false}
-use Prim.Native.Nat.{ℕ, zero, suc, _+_, _-_, _%_, _^_, _<_, _≤_}
+use mathlib.Core.Path.{_≡_, refl, ap, _∙_}
+use mathlib.Core.List.{List, [], _++_}
+use Prim.Native.Nat.{ℕ, zero, suc, _+_, _-_}
 use native.Mathlib.Omega.{arith}
-use native.Mathlib.Nat.{zero-add, suc-add, not-suc-le-zero, le-of-suc-le-suc}
-use native.Mathlib.Numerals.{add-one}
-use lib.ListN.{length, getD, set, take, drop, take-append-drop, length-drop, length-set}
-use lib.Seq.{take-all, take-length, length-take-le, getD-append-add}
+use lib.ListN.{length, take, drop}
+use lib.Seq.{take-length}
 use Rattle.table.specs.declared.Answer as tables
 use Rattle.table.specs.declared.Answer.the-variants.{Passes}
 use Rattle.table.specs.Entries.{zeros}
@@ -51,10 +48,6 @@ module _ (table : List ℕ) (a : tables.Answer) (is : a ≡ tableAnswer table) (
   begun-passed passes e = rw (e, is, passes) refl
 
 -- ---- Sums
-
--- All the numbers, from the first sum on.
-pub all-added : (n : ℕ) (sums numbers after : List ℕ) → length numbers ≤ n → after ≡ take 0 sums ++ summed (drop 0 sums) (take n numbers) → after ≡ summed sums numbers
-all-added n sums numbers after short is = is ∙ ap (summed sums) (take-all n numbers short)
 
 -- The sums of all three arrays.
 module _ (x : Report) (y : Tally) (dwell pairs entries : List ℕ) where

@@ -2,3 +2,4 @@ pub mod Adding
 pub mod Accepting
 pub mod TableLong
 pub mod Row
+pub mod Held

@@ -112,7 +112,7 @@ fn add_states(before: [u64; 32], counted: [u32; 32]) -> [u64; 32]
 {
     let numbers = counted;
     let mut sums = before;
-    add_numbers(&numbers, 32, &mut sums, 0);
+    add_numbers(&numbers, &mut sums);
     sums
 }
 
@@ -121,7 +121,7 @@ fn add_pairs(before: [u64; 1024], counted: [u32; 1024]) -> [u64; 1024]
 {
     let numbers = counted;
     let mut sums = before;
-    add_numbers(&numbers, 1024, &mut sums, 0);
+    add_numbers(&numbers, &mut sums);
     sums
 }
 

@@ -1,4 +1,5 @@
 pub mod Sums
+pub mod More
 pub mod Stretches
 pub mod Places
 pub mod Counted

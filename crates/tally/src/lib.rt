@@ -1,9 +1,8 @@
 // Where the time of one accepted journal went: the slots in each state, in each state with each input, and the entries into each state.
 // The records carry every state and every input, so that one pass over them counts the slots between two records at once.
 ghost use mathlib.Core.Path.{_≡_};
-ghost use mathlib.Core.List.{_++_};
 ghost use Prim.Native.Nat.{_+_, _*_, _<_, _≤_};
-ghost use lib.ListN.{length, getD, take, drop};
+ghost use lib.ListN.{length, getD};
 ghost use Rattle.wire.specs.Choice.{_=?_, if_then_else_};
 ghost use Rattle.table.specs.Check.{tableIn};
 ghost use Rattle.records.specs.Form.{journal};
@@ -98,14 +97,14 @@ pub fn count(table: &[u8], s: &[u8]) -> Tally
     }
 }
 
-// Adds the first n numbers to those from `at` on, modulo 2^64.
-pub fn add_numbers(numbers: &[u32], n: usize, sums: &mut [u64], at: usize)
-    requires { ⌜ (n ≤ length (now numbers)) × (at + n ≤ length (now sums)) ⌝ }
-    ensures { λ _. ⌜ now (sums .exit) ≡ take at (now (sums .entry)) ++ summed (drop at (now (sums .entry))) (take n (now (numbers .entry))) ⌝ }
+// Adds the numbers to the first sums, modulo 2^64.
+pub fn add_numbers(numbers: &[u32], sums: &mut [u64])
+    requires { ⌜ length (now numbers) ≤ length (now sums) ⌝ }
+    ensures { λ _. ⌜ now (sums .exit) ≡ summed (now (sums .entry)) (now (numbers .entry)) ⌝ }
 {
     let mut k = 0;
-    while k < n {
-        sums[at + k] = wrapping_add_u64(sums[at + k], numbers[k] as u64);
+    while k < numbers.len() {
+        sums[k] = wrapping_add_u64(sums[k], numbers[k] as u64);
         k += 1;
     }
 }
