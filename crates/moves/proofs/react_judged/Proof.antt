@@ -7,6 +7,7 @@ use native.Mathlib.Omega.{arith}
 use lib.ListN.{length, drop}
 use borrow.Author.Needs.{needs}
 use Rattle.wire.proofs.Choice.{both}
+use Rattle.reaction.specs.Reaction.{weight}
 use Rattle.reaction.proofs.Meaning.{stays}
 use Rattle.reaction.proofs.Findings.{can-walk, weights-fit}
 use Rattle.moves.specs.Answer.{judgedPasses?}
@@ -52,7 +53,7 @@ filled : (c : tie.After-fill-sums) →
     let read = c .before .before .before .before .before .before .before .before .before .before .before .before .before .before in
     let a = read .before .before .before .before .args in
     let t = read .read .result in
-    c .fill-sums .last .1 .1 .1 .1 .0 ≡ rows t (a .states) (a .inputs) (c .before .before .before .before .before .before .before .before .before .before .next-times .result) (a .moves) ++ drop (a .moves * t .states) (a .sums .now)
+    c .fill-sums .last .1 .1 .1 .1 .0 ≡ rows t (a .states) (a .inputs) (c .before .before .before .before .before .before .before .before .before .before .next-times .result) (weight t (a .inputs)) (a .moves) ++ drop (a .moves * t .states) (a .sums .now)
 filled c =
     let weighed = c .before .before .before .before .before in
     let read = weighed .before .before .before .before .before .before .before .before .before in
