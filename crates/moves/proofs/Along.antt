@@ -12,12 +12,30 @@ use Rattle.wire.specs.Choice.{_=?_, if_then_else_}
 use Rattle.wire.specs.Encode.{placedIn}
 use Rattle.wire.proofs.Placed.{placed-after}
 use Rattle.sets.specs.Sets.{member, largest}
+use Rattle.table.specs.Table.{nextOf}
+use Rattle.table.specs.Check.{tableIn}
+use Rattle.table.proofs.WellFormed.{well-formed}
 use Rattle.moves.specs.declared.rounds.Way.{Way}
 use Rattle.moves.specs.Moves.{worst}
-use Rattle.moves.specs.Walks.{Steps, WorstMember, aheadStored, pathAlong, pathAfterInput, wholePathAlong}
+use Rattle.moves.specs.Walks.{WayIn, WorstMember, aheadStored, pathAlong, pathAfterInput, wholePathAlong}
 use Rattle.moves.proofs.Worsts.{is-largest, is-worst}
 
-module _ {next : ℕ → ℕ → ℕ} {way : Way} (steps : Steps next way) (sums : List ℕ) (q : ℕ) where
+module _ {s : List ℕ} {way : Way} (along : WayIn s way) where
+  pub few-states : way .states ≤ 32
+  few-states = omega (arith, along .states, well-formed s (along .rows .passes) .states)
+
+  pub few-inputs : way .width ≤ 32
+  few-inputs = omega (arith, along .rows .wide, well-formed s (along .rows .passes) .inputs)
+
+  -- A next state is one of the way's.
+  pub goes-to : (q a : ℕ) → q < way .states → member (way .inputs) a ≡ true → nextOf (tableIn s) q a < way .states
+  goes-to q a low m =
+      omega (arith, along .states, well-formed s (along .rows .passes) .next q a (omega (arith, along .states)) (omega (arith, along .inputs a m, along .rows .wide)))
+
+module _ {s : List ℕ} {way : Way} (along : WayIn s way) (sums : List ℕ) (q : ℕ) where
+  abbrev next : ℕ → ℕ → ℕ
+  next = nextOf (tableIn s)
+
   pub none-left : (left : ℕ) → left ≡ 0 → q ∷ [] ≡ pathAlong next way sums left q
   unfolding pathAlong
   none-left left e = rw e
@@ -33,12 +51,12 @@ module _ {next : ℕ → ℕ → ℕ} {way : Way} (steps : Steps next way) (sums
     step = let e : left ≡ suc (left - 1) = omega arith in ap (λ k. pathAlong next way sums k q) e
 
     pub none-ahead : sum ≡ 0 → q ∷ [] ≡ pathAlong next way sums left q
-    none-ahead e = sym (step ∙ rw (eq-eqb (largest (way .width) (member (way .inputs)) ahead) 0 (sym (is-largest (steps .inputs) found) ∙ e)))
+    none-ahead e = sym (step ∙ rw (eq-eqb (largest (way .width) (member (way .inputs)) ahead) 0 (sym (is-largest (along .inputs) found) ∙ e)))
 
     pub goes-on : (sum ≡ 0 → ⊥) → q ∷ pathAfterInput next way sums left q at ≡ pathAlong next way sums left q
     goes-on other =
-        let l = is-largest (steps .inputs) found in
-        let w = is-worst (steps .inputs) found (omega arith) in
+        let l = is-largest (along .inputs) found in
+        let w = is-worst (along .inputs) found (omega arith) in
         sym (step ∙ rw (ne-eqb (largest (way .width) (member (way .inputs)) ahead) 0 (λ z. other (l ∙ z)), ← w))
 
 pub path-length : (next : ℕ → ℕ → ℕ) (way : Way) (sums : List ℕ) (left q : ℕ) → length (pathAlong next way sums left q) ≤ left + left + 1

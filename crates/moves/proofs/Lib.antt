@@ -1,6 +1,6 @@
 pub mod Worsts
 pub mod Targets
-pub mod Weighing
+pub mod Noting
 pub mod InOrder
 pub mod Rows
 pub mod Along

@@ -4,7 +4,7 @@ use mathlib.Core.Bool.{Bool, true, false}
 use mathlib.Core.List.{List, [], _∷_, _++_, append-assoc, append-nil}
 use mathlib.Core.Logic.{_⊎_, inl, inr}
 use Prim.Native.Nat.{ℕ, zero, suc, _+_, _-_, _*_, _<_, _≤_}
-use native.Mathlib.Nat.{mul-le-mul-right, zero-mul, suc-mul, add-zero, zero-add, add-suc}
+use native.Mathlib.Nat.{le-antisymm, mul-le-mul-right, zero-mul, suc-mul, add-zero, zero-add, add-suc}
 use native.Mathlib.Numerals.{add-one}
 use native.Mathlib.Omega.{arith}
 use borrow.Author.Tests.{ne-eqb, eqb-true, eqb-false}
@@ -12,44 +12,24 @@ use lib.Arith.{digits-div, digits-mod, digits-lt, le-zero}
 use lib.ListN.{length, getD, drop, List·getD-append}
 use Rattle.wire.specs.Choice.{_=?_, _and_, if_then_else_}
 use Rattle.wire.specs.Encode.{placedIn}
-use Rattle.wire.proofs.Choice.{both}
+use Rattle.wire.proofs.Choice.{never, both}
 use Rattle.sets.specs.Sets.{member, some, largest, Difference}
+use Rattle.sets.proofs.Bits.{none-in-empty}
+use Rattle.sets.proofs.Members.{largest-covers, largest-reached, Reaching}
 use Rattle.table.specs.declared.Table.{Table}
 use Rattle.table.specs.Table.{nextOf, holdOf, delays}
 use Rattle.table.specs.Entries.{values}
 use Rattle.table.proofs.Values.{getD-values, getD-zeros}
-use Rattle.reaction.specs.Reaction.{firstFrom, offTarget, weight, nextSet}
-use Rattle.reaction.specs.Walks.{weightIn}
-use Rattle.reaction.proofs.Meaning.{AllExist, target-has, target-only, same-target}
+use Rattle.reaction.specs.Reaction.{firstFrom, offTarget, weight}
+use Rattle.reaction.proofs.Meaning.{AllExist}
 use Rattle.reaction.proofs.Findings.{same-weight, weight-at-most, weight-at-least}
 use Rattle.moves.specs.declared.rounds.Way.{Way}
 use Rattle.moves.specs.Moves.{nextTimes, worst, round, sumsOf, rows, pathFrom, largestSum, worstStart, worstPath, reactionOver, sumsOver, pathOver}
-use Rattle.moves.specs.Walks.{ComesByMoves, Steps, Weighs, WorstMember, aheadStored, roundStored, rowStored, sumStored, pathAlong, wholePathAlong, heaviest}
+use Rattle.moves.specs.Walks.{ImagesAmong, HasImages, HasWeights, WorstMember, aheadStored, roundStored, rowStored, sumStored, pathAlong, wholePathAlong, heaviest}
 use Rattle.moves.proofs.Rows.{same-largest, largest-at-most, row-at-most}
 use Rattle.moves.proofs.Worsts.{is-largest, is-worst, worst-in}
 use Rattle.moves.proofs.Smallest.{worst-found}
 use Rattle.moves.proofs.AllRows.{length-rows, row-at}
-
--- ---- The target
-
-module _ {t : Table} {P A : ℕ} (all : AllExist t P A) where
-  times-inside : (n N : ℕ) → ComesByMoves (nextOf t) P A n N → (q : ℕ) → member N q ≡ true → member P q ≡ true
-  times-inside zero N e q m = rw e at m
-  times-inside (suc n) N (M, before, states) q m =
-      let c = states .only q m in
-      times-inside n M before q (rw (c .is) at (states .inside (c .state) (c .input) (c .pair)))
-
-  pub times-are : (n N : ℕ) → ComesByMoves (nextOf t) P A n N → N ≡ nextTimes t P A n
-  unfolding nextTimes
-  times-are zero N e = e
-  times-are (suc n) N (M, before, states) =
-      let known : AllExist t M A = record {
-        table = all .table;
-        states = λ q m. all .states q (times-inside n M before q m);
-        inputs = all .inputs;
-      } in
-      same-target states (record { inside = states .inside; has = target-has known; only = target-only known })
-      ∙ ap (λ S. nextSet t S A) (times-are n M before)
 
 -- ---- Lists and numbers that agree place by place
 
@@ -91,25 +71,45 @@ same-worst {test} {other} {f} {g} tests each n = (most, same-first (λ i. rw (te
 
 -- ---- The rows
 
--- The table's rows can be walked.
-pub steps : {t : Table} {P A : ℕ} → AllExist t P A → Steps (nextOf t) (record { width = t .inputs; inputs = A; states = t .states })
-steps all = record {
-  few = all .table .inputs .1;
-  states = all .table .states;
-  inputs = all .inputs;
-  below = λ q a low m. all .table .next q a low (all .inputs a m);
-}
+module _ {t : Table} {P A : ℕ} (all : AllExist t P A) {images : List ℕ} (of : HasImages (nextOf t) P A images) where
+  -- An image has no members but states.
+  pub among : ImagesAmong images (t .states)
+  among = record { states = all .table .states; below = λ q p low m. go q p low m (member P q) refl }
+    where
+      go : (q p : ℕ) → q < t .states → member (getD images q 0) p ≡ true → (b : Bool) → member P q ≡ b → p < t .states
+      go q p low m true h =
+          let c = of .each q h .only p m in
+          omega (arith, c .is, all .table .next (c .state) (c .input) (omega (arith, c .pair .0)) (all .inputs (c .input) (c .pair .1)))
+      go q p low m false h = never (sym (none-in-empty p) ∙ rw (of .others q h) at m)
 
-module _ {t : Table} {P A : ℕ} (all : AllExist t P A) (N outside : ℕ) (rest : Difference P N outside) (weights : List ℕ)
-    (weighs : Weighs outside (weightIn (t .hold) (t .delayed) (t .bound) A) weights) where
-  abbrev way : Way
-  way = record { width = t .inputs; inputs = A; states = t .states }
+  -- The largest over its image is the largest over the inputs.
+  same-most : (f : ℕ → ℕ) (q : ℕ) → member P q ≡ true → largest (t .states) (member (getD images q 0)) f ≡ largest (t .inputs) (member A) (λ a. f (nextOf t q a))
+  same-most f q h = le-antisymm (go (largest-reached (t .states) (member (getD images q 0)) f)) (back (largest-reached (t .inputs) (member A) (λ a. f (nextOf t q a))))
+    where
+      go : {x : ℕ} → (x ≡ 0) ⊎ Reaching (t .states) (member (getD images q 0)) f x → x ≤ largest (t .inputs) (member A) (λ a. f (nextOf t q a))
+      go (inl z) = omega arith
+      go (inr r) =
+          let c = of .each q h .only (r .at) (r .passes) in
+          let to : nextOf t q (c .input) ≡ r .at = rw (c .pair .0) at (c .is) in
+          rw (r .is, ← to) (largest-covers (t .inputs) (member A) (λ a. f (nextOf t q a)) (c .input) (all .inputs (c .input) (c .pair .1)) (c .pair .1))
 
+      back : {x : ℕ} → (x ≡ 0) ⊎ Reaching (t .inputs) (member A) (λ a. f (nextOf t q a)) x → x ≤ largest (t .states) (member (getD images q 0)) f
+      back (inl z) = omega arith
+      back (inr r) =
+          let in-image = of .each q h .has q (r .at) (refl, r .passes) in
+          rw (r .is) (largest-covers (t .states) (member (getD images q 0)) f (nextOf t q (r .at)) (all .table .next q (r .at) (all .states q h) (all .inputs (r .at) (r .passes))) in-image)
+
+module _ {t : Table} {P A : ℕ} (all : AllExist t P A) {images : List ℕ} (of : HasImages (nextOf t) P A images)
+    (N outside : ℕ) (rest : Difference P N outside) (weights : List ℕ) (weighs : HasWeights t outside A weights) where
   abbrev weigh : ℕ → ℕ
   weigh q = getD weights q 0
 
   weighed : (q : ℕ) → weigh q ≡ (if offTarget P N q then weight t A q else 0)
-  weighed q = weighs q ∙ rw (rest q) (ap (λ w. if offTarget P N q then w else 0) (same-weight all q))
+  weighed q = go (member outside q) refl
+    where
+      go : (b : Bool) → member outside q ≡ b → weigh q ≡ (if offTarget P N q then weight t A q else 0)
+      go true m = rw (sym (rest q) ∙ m) (weighs .each q m ∙ same-weight all q)
+      go false m = rw (sym (rest q) ∙ m) (weighs .others q m)
 
   abbrev delayed : ℕ → Bool
   delayed q = some (t .inputs) (λ a. member A a and delays t q a)
@@ -126,20 +126,24 @@ module _ {t : Table} {P A : ℕ} (all : AllExist t P A) (N outside : ℕ) (rest 
           omega (arith, weight-at-most (holdOf t q) (t .bound) (delayed q), hold, all .table .bound)
       go false e = omega arith
 
-  rounds-agree : (row : List ℕ) → roundStored (nextOf t) way weigh row ≡ round t P A N (weight t A) row
+  rounds-agree : (row : List ℕ) → roundStored images (t .states) weigh row ≡ round t P A N (weight t A) row
   unfolding roundStored round
-  rounds-agree row = same-values (t .states) (λ q h. rw (weighed q) (go (offTarget P N q) (weight t A q) _ (some-weight q)))
+  rounds-agree row = same-values (t .states) (λ q h. rw (weighed q) (go q (offTarget P N q) refl (some-weight q)))
     where
-      go : (b : Bool) (w m : ℕ) → 1 ≤ w → (if (if b then w else 0) =? 0 then 0 else (if b then w else 0) + m) ≡ (if b then w + m else 0)
-      go true w m l = rw (ne-eqb w 0 (λ z. omega arith))
-      go false w m l = refl
+      go : (q : ℕ) → (b : Bool) → offTarget P N q ≡ b → 1 ≤ weight t A q →
+          (if (if b then weight t A q else 0) =? 0 then 0 else (if b then weight t A q else 0) + largest (t .states) (member (getD images q 0)) (λ p. getD row p 0)) ≡
+          (if b then weight t A q + largest (t .inputs) (member A) (λ a. getD row (nextOf t q a) 0) else 0)
+      go q true e l =
+          rw (ne-eqb (weight t A q) 0 (λ z. omega arith))
+          (ap (λ m. weight t A q + m) (same-most all of (λ p. getD row p 0) q (both (member P q) _ e .0)))
+      go q false e l = refl
 
-  pub rows-agree : (k : ℕ) → rowStored (nextOf t) way weigh k ≡ sumsOf t P A N (weight t A) k
+  pub rows-agree : (k : ℕ) → rowStored images (t .states) weigh k ≡ sumsOf t P A N (weight t A) k
   unfolding rowStored sumsOf
   rows-agree zero = refl
-  rows-agree (suc k) = rounds-agree (rowStored (nextOf t) way weigh k) ∙ ap (round t P A N (weight t A)) (rows-agree k)
+  rows-agree (suc k) = rounds-agree (rowStored images (t .states) weigh k) ∙ ap (round t P A N (weight t A)) (rows-agree k)
 
-  place-agrees : (r q : ℕ) → q < t .states → sumStored (nextOf t) way weigh (r * t .states + q) ≡ getD (sumsOf t P A N (weight t A) (suc r)) q 0
+  place-agrees : (r q : ℕ) → q < t .states → sumStored images (t .states) weigh (r * t .states + q) ≡ getD (sumsOf t P A N (weight t A) (suc r)) q 0
   place-agrees r q low = rw (digits-div r low, digits-mod r low, add-one r, rows-agree (suc r))
 
   -- A row is the list of its numbers.
@@ -149,19 +153,19 @@ module _ {t : Table} {P A : ℕ} (all : AllExist t P A) (N outside : ℕ) (rest 
       same-values (t .states)
       (λ q low. sym (getD-values (λ q. if offTarget P N q then weight t A q + largest (t .inputs) (member A) (λ a. getD (sumsOf t P A N (weight t A) n) (nextOf t q a) 0) else 0) (t .states) q low))
 
-  pub all-rows : (n : ℕ) → values (sumStored (nextOf t) way weigh) (n * t .states) ≡ rows t P A N (weight t A) n
+  pub all-rows : (n : ℕ) → values (sumStored images (t .states) weigh) (n * t .states) ≡ rows t P A N (weight t A) n
   unfolding rows
-  all-rows zero = no-values (sumStored (nextOf t) way weigh) (zero-mul (t .states))
+  all-rows zero = no-values (sumStored images (t .states) weigh) (zero-mul (t .states))
   all-rows (suc n) =
-      let row : values (λ q. sumStored (nextOf t) way weigh (n * t .states + q)) (t .states) ≡ sumsOf t P A N (weight t A) (suc n) =
+      let row : values (λ q. sumStored images (t .states) weigh (n * t .states + q)) (t .states) ≡ sumsOf t P A N (weight t A) (suc n) =
       same-values (t .states) (place-agrees n) ∙ sym (row-listed n)
       in
-      ap (values (sumStored (nextOf t) way weigh)) (suc-mul n (t .states))
-      ∙ more-values (sumStored (nextOf t) way weigh) (n * t .states) (t .states)
+      ap (values (sumStored images (t .states) weigh)) (suc-mul n (t .states))
+      ∙ more-values (sumStored images (t .states) weigh) (n * t .states) (t .states)
       ∙ rw (all-rows n, row)
 
   sums-light : (k q : ℕ) → q < t .states → getD (sumsOf t P A N (weight t A) k) q 0 ≤ k * heaviest
-  sums-light k q low = rw (← rows-agree k) (row-at-most (steps all) weigh light k q low)
+  sums-light k q low = rw (← rows-agree k) (row-at-most (among all of) weigh light k q low)
 
   pub largest-light : (n : ℕ) → n ≤ 32 → largestSum t P A N (weight t A) n ≤ 32 * heaviest
   unfolding largestSum
@@ -174,8 +178,8 @@ module _ {t : Table} {P A : ℕ} (all : AllExist t P A) (N outside : ℕ) (rest 
 -- ---- The path
 
 module _ {t : Table} {P A : ℕ} (all : AllExist t P A) (N n : ℕ) (after : List ℕ) where
-  abbrev way′ : Way
-  way′ = record { width = t .inputs; inputs = A; states = t .states }
+  abbrev way : (start : ℕ) → Way
+  way start = record { start = start; width = t .inputs; inputs = A; states = t .states }
 
   -- The slice has the rows in front.
   module _ (behind : List ℕ) (holds : after ≡ rows t P A N (weight t A) n ++ behind) where
@@ -185,17 +189,17 @@ module _ {t : Table} {P A : ℕ} (all : AllExist t P A) (N n : ℕ) (after : Lis
         ∙ List·getD-append (rows t P A N (weight t A) n) behind 0 (r * t .states + q) (rw (length-rows t P A N (weight t A) n) (digits-lt row low))
         ∙ row-at t P A N (weight t A) n r q row low
 
-    pub path-agrees : (left q : ℕ) → left < n → q < t .states → pathAlong (nextOf t) way′ after left q ≡ pathFrom t P A N (weight t A) left q
+    path-agrees : (start left q : ℕ) → left < n → q < t .states → pathAlong (nextOf t) (way start) after left q ≡ pathFrom t P A N (weight t A) left q
     unfolding pathAlong pathFrom
-    path-agrees zero q few low = refl
-    path-agrees (suc k) q few low =
-        rw (agree .0, agree .1) (go (largest (t .inputs) (member A) ahead =? 0) refl (path-agrees k))
+    path-agrees start zero q few low = refl
+    path-agrees start (suc k) q few low =
+        rw (agree .0, agree .1) (go (largest (t .inputs) (member A) ahead =? 0) refl (path-agrees start k))
       where
         ahead : ℕ → ℕ
         ahead a = getD (sumsOf t P A N (weight t A) (suc k)) (nextOf t q a) 0
 
-        agree : (largest (t .inputs) (member A) (aheadStored (nextOf t) way′ after (k * t .states) q) ≡ largest (t .inputs) (member A) ahead) ×
-            (worst (t .inputs) (member A) (aheadStored (nextOf t) way′ after (k * t .states) q) ≡ worst (t .inputs) (member A) ahead)
+        agree : (largest (t .inputs) (member A) (aheadStored (nextOf t) (way start) after (k * t .states) q) ≡ largest (t .inputs) (member A) ahead) ×
+            (worst (t .inputs) (member A) (aheadStored (nextOf t) (way start) after (k * t .states) q) ≡ worst (t .inputs) (member A) ahead)
         agree =
             same-worst (λ i. refl)
             (λ a m. rw (← add-one k) (place-has k (nextOf t q a) (omega arith) (all .table .next q a low (all .inputs a m)))) (t .inputs)
@@ -204,8 +208,8 @@ module _ {t : Table} {P A : ℕ} (all : AllExist t P A) (N n : ℕ) (after : Lis
         input = worst (t .inputs) (member A) ahead
 
         go : (b : Bool) → (largest (t .inputs) (member A) ahead =? 0) ≡ b →
-            ((p : ℕ) → k < n → p < t .states → pathAlong (nextOf t) way′ after k p ≡ pathFrom t P A N (weight t A) k p) →
-            (if b then q ∷ [] else q ∷ input ∷ pathAlong (nextOf t) way′ after k (nextOf t q input)) ≡
+            ((p : ℕ) → k < n → p < t .states → pathAlong (nextOf t) (way start) after k p ≡ pathFrom t P A N (weight t A) k p) →
+            (if b then q ∷ [] else q ∷ input ∷ pathAlong (nextOf t) (way start) after k (nextOf t q input)) ≡
             (if b then q ∷ [] else q ∷ input ∷ pathFrom t P A N (weight t A) k (nextOf t q input))
         go true e more = refl
         go false e more =
@@ -239,15 +243,20 @@ module _ {t : Table} {P A : ℕ} (all : AllExist t P A) (N n : ℕ) (after : Lis
           go true e = inl (eqb-true sum 0 e)
           go false e = inr (in-states at (worst-in found (eqb-false sum 0 e)))
 
-      pub whole-is : wholePathAlong (nextOf t) way′ after (n - 1) sum at ≡ worstPath t P A N (weight t A) n
+      pub whole-is : (along : Way) → along .width ≡ t .inputs → along .inputs ≡ A → along .states ≡ t .states →
+          wholePathAlong (nextOf t) along after (n - 1) sum at ≡ worstPath t P A N (weight t A) n
       unfolding wholePathAlong worstPath
-      whole-is = rw (← sum-is) (go (sum =? 0) refl)
+      whole-is along width inputs states = rw (← sum-is) (go (sum =? 0) refl)
         where
-          go : (b : Bool) → (sum =? 0) ≡ b → (if b then [] else pathAlong (nextOf t) way′ after (n - 1) at) ≡ (if b then [] else pathFrom t P A N (weight t A) (n - 1) (worstStart t P A N (weight t A) n))
+          path : (q : ℕ) → pathAlong (nextOf t) along after (n - 1) q ≡ pathAlong (nextOf t) (way (along .start)) after (n - 1) q
+          path q = rw (← width, ← inputs, ← states) refl
+
+          go : (b : Bool) → (sum =? 0) ≡ b → (if b then [] else pathAlong (nextOf t) along after (n - 1) at) ≡ (if b then [] else pathFrom t P A N (weight t A) (n - 1) (worstStart t P A N (weight t A) n))
           go true e = refl
           go false e =
               let other = eqb-false sum 0 e in
-              path-agrees (n - 1) at (omega arith) (in-states at (worst-in found other))
+              path at
+              ∙ path-agrees (along .start) (n - 1) at (omega arith) (in-states at (worst-in found other))
               ∙ ap (pathFrom t P A N (weight t A) (n - 1)) (is-worst in-states found (omega arith) ∙ agree .1)
 
 -- ---- The answer, and what is written

@@ -10,6 +10,7 @@ ghost use Rattle.moves.specs.Moves.{judge, judgeOf};
 use crate::Judged;
 use reaction::Gathered;
 use reaction::next_of_states;
+use rows::layout_of;
 use sets::within;
 
 pub const MOST_MOVES: u32 = 32;
@@ -39,7 +40,7 @@ fn judge_checked(
     requires { ⌜ tableAnswer (now table) ≡ Passes ⌝ }
     ensures { λ r. ⌜ r ≡ forHolds Judged.HasTimers (λ t. judge t states inputs moves sums path) (tableIn (now (table .entry))) ⌝ }
 {
-    let t = table::read(table);
+    let t = layout_of(table);
     if t.timers != 0 {
         return Judged::HasTimers;
     }
@@ -52,7 +53,7 @@ fn judge_checked(
     if MOST_MOVES < moves {
         return Judged::TooManyMoves;
     }
-    let gathered = next_of_states(&t.next, t.inputs, states, inputs);
+    let gathered = next_of_states(table, t.next, t.inputs, states, inputs);
     let Gathered::Inside(_) = gathered else {
         return Judged::LeavesStates(gathered.place(t.inputs));
     };

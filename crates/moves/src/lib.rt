@@ -1,24 +1,23 @@
 // Reaction over several moves: a table, a set of states, a set of inputs and a number of moves go in; the time and the target come out,
 // and with them the largest sums of weights, a row of states for each round, and one worst path.
 ghost use mathlib.Core.Path.{_≡_};
-ghost use mathlib.Core.Bool.{true};
-ghost use Prim.Native.Nat.{ℕ, _≤_};
-ghost use lib.ListN.{length, getD};
+ghost use lib.ListN.{length};
 ghost use Rattle.wire.specs.Reply.{numberIn, placeIn};
-ghost use Rattle.sets.specs.Sets.{member};
-ghost use Rattle.table.specs.Table.{largestBound, longestHold};
+ghost use Rattle.table.specs.Table.{nextOf};
 ghost use Rattle.table.specs.Check.{tableIn};
-ghost use Rattle.reaction.specs.Walks.{nextInRows, Walkable, weightIn};
+ghost use Rattle.reaction.specs.Meaning.{Known};
+ghost use Rattle.reaction.specs.Walks.{Walkable, Weighable};
 ghost use Rattle.moves.specs.declared.Judged.the-variants.{Passes};
 ghost use Rattle.moves.specs.Answer.{refusalOf, replyOf};
 ghost use Rattle.moves.specs.Moves.{judgeOf, reactionOver, sumsOver, pathOver, movesOf, sumsAfter, pathAfter};
-ghost use Rattle.moves.specs.Walks.{Weighs, ComesByMoves, StaysInside};
-use reaction::Gathered;
+ghost use Rattle.moves.specs.Walks.{HasImages, HasWeights, Unites, UnitesTimes};
 use reaction::Row;
-use reaction::next_of_states;
+use reaction::image_of;
 use reaction::state_weight;
+use rows::layout_of;
 use sets::difference;
 use sets::take_smallest;
+use sets::union;
 
 pub mod judging;
 mod paths;
@@ -86,35 +85,61 @@ pub enum Answer {
     Refused(Judged),
 }
 
-// What comes of the states by so many moves. It never leaves the set that it comes of.
-fn next_times(rows: &[u8; 1024], width: u32, states: u32, inputs: u32, moves: u32) -> u32
-    requires { ⌜ Walkable (nextInRows (now rows) width) width states inputs × StaysInside (nextInRows (now rows) width) states inputs ⌝ }
-    ensures { λ r. ⌜ ComesByMoves (nextInRows (now (rows .entry)) width) states inputs moves r ⌝ }
+// Of each of the states the set of its next states; 0 for every other state.
+fn images_of(s: &[u8], from: usize, width: u32, states: u32, inputs: u32) -> Row
+    requires { ⌜ Walkable (now s) from width states inputs ⌝ }
+    ensures { λ r. ⌜ HasImages (nextOf (tableIn (now (s .entry)))) states inputs r ⌝ }
+{
+    let mut images = [0u32; 32];
+    let mut rest = states;
+    while rest != 0 {
+        let taken = take_smallest(rest);
+        let state = taken.member as usize;
+        images[state] = image_of(s, from, width, inputs, taken.member);
+        rest = taken.rest;
+    }
+    images
+}
+
+// The members of the sets of these states.
+fn united(sets: &Row, states: u32) -> u32
+    ensures { λ r. ⌜ Unites (now (sets .entry)) states r ⌝ }
+{
+    let mut rest = states;
+    let mut all = 0;
+    while rest != 0 {
+        let taken = take_smallest(rest);
+        let state = taken.member as usize;
+        all = union(all, sets[state]);
+        rest = taken.rest;
+    }
+    all
+}
+
+// What comes of the states by so many moves.
+fn next_times(images: &Row, states: u32, moves: u32) -> u32
+    ensures { λ r. ⌜ UnitesTimes (now (images .entry)) states moves r ⌝ }
 {
     let mut set = states;
     let mut k = 0;
     while k < moves {
-        let gathered = next_of_states(rows, width, set, inputs);
-        let Gathered::Inside(next) = gathered else {
-            return set;
-        };
-        set = next;
+        set = united(images, set);
         k += 1;
     }
     set
 }
 
 // The weights of the states on a path; 0 for every other state.
-fn path_weights<'a>(holds: &'a Row, delayed: &'a Row, bound: u32, states: u32, inputs: u32) -> Row
-    requires { ⌜ (bound ≤ largestBound) × ((p : ℕ) → member states p ≡ true → getD (now holds) p 0 ≤ longestHold) ⌝ }
-    ensures { λ r. ⌜ Weighs states (weightIn (now (holds .entry)) (now (delayed .entry)) bound inputs) r ⌝ }
+fn path_weights(s: &[u8], holds: usize, delayed: usize, bound: u32, states: u32, inputs: u32) -> Row
+    requires { ⌜ Weighable (now s) holds delayed bound × Known (tableIn (now s) .states) states ⌝ }
+    ensures { λ r. ⌜ HasWeights (tableIn (now (s .entry))) states inputs r ⌝ }
 {
     let mut weights = [0u32; 32];
     let mut rest = states;
     while rest != 0 {
         let taken = take_smallest(rest);
         let state = taken.member as usize;
-        weights[state] = state_weight(holds, delayed, bound, inputs, taken.member);
+        weights[state] = state_weight(s, holds, delayed, bound, inputs, taken.member);
         rest = taken.rest;
     }
     weights
@@ -134,7 +159,7 @@ pub fn react_judged(
     ensures sums { λ _. ⌜ now (sums .exit) ≡ sumsOver (tableIn (now (table .entry))) states inputs moves (now (sums .entry)) ⌝ }
     ensures path { λ _. ⌜ now (path .exit) ≡ pathOver (tableIn (now (table .entry))) states inputs moves (now (path .entry)) ⌝ }
 {
-    let t = table::read(table);
+    let t = layout_of(table);
     if moves == 0 {
         return Reaction {
             time: t.bound,
@@ -142,18 +167,20 @@ pub fn react_judged(
             length: 0,
         };
     }
-    let target = next_times(&t.next, t.inputs, states, inputs, moves);
+    let images = images_of(table, t.next, t.inputs, states, inputs);
+    let target = next_times(&images, states, moves);
     let outside = difference(states, target);
-    let weights = path_weights(&t.hold, &t.delayed, t.bound, outside, inputs);
+    let weights = path_weights(table, t.hold, t.delayed, t.bound, outside, inputs);
     let way = Way {
+        start: t.next,
         width: t.inputs,
         inputs,
         states: t.states,
     };
-    fill_sums(&t.next, &weights, way, moves, sums);
+    fill_sums(&images, &weights, t.states, moves, sums);
     let last = (moves - 1) as usize;
     let first = worst_start(sums, last * t.states as usize, outside);
-    let length = write_path(&t.next, sums, way, last, first, path);
+    let length = write_path(table, sums, way, last, first, path);
     Reaction {
         time: t.bound + first.sum,
         target,

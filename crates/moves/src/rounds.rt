@@ -6,17 +6,16 @@ ghost use lib.ListN.{length, getD};
 ghost use Rattle.wire.specs.Choice.{_<?_, if_then_else_};
 ghost use Rattle.sets.specs.Sets.{member};
 ghost use Rattle.table.specs.Entries.{filledTo};
-ghost use Rattle.reaction.specs.Walks.{nextInRows};
-ghost use Rattle.moves.specs.Walks.{PlaceForEach, Steps, WorstMember, aheadStored, sumStored, sumFromStored, heaviest, SumsFit};
+ghost use Rattle.table.specs.Table.{nextOf};
+ghost use Rattle.table.specs.Check.{tableIn};
+ghost use Rattle.moves.specs.Walks.{PlaceForEach, WayIn, ImagesAmong, WorstMember, aheadStored, sumStored, sumFromStored, heaviest, SumsFit};
 use reaction::Row;
+use rows::next_in;
 use sets::take_smallest;
-use table::next_state;
 
-// Next states, rows by state.
-pub type Rows = [u8; 1024];
-
-// How the rows of next states are walked: I to a row, these inputs, Q states.
+// How the rows of next states are walked: where they start in the table's bytes, I to a row, these inputs, Q states.
 pub struct Way {
+    pub start: usize,
     pub width: u32,
     pub inputs: u32,
     pub states: u32,
@@ -39,16 +38,16 @@ fn larger(found: Most, sum: u32, member: u32) -> Most
 }
 
 // Of the next states of a state, in the row at `from`, by input.
-pub fn worst_step<'a>(next: &'a Rows, sums: &'a [u32], way: Way, from: usize, state: u32) -> Most
-    requires { ⌜ Steps (nextInRows (now next) (way .width)) way × (state < way .states) × (from + way .states ≤ length (now sums)) ⌝ }
-    ensures { λ r. ⌜ WorstMember (way .inputs) (aheadStored (nextInRows (now (next .entry)) (way .width)) way (now (sums .entry)) from state) (r .sum) (r .member) ⌝ }
+pub fn worst_step<'a>(s: &'a [u8], sums: &'a [u32], way: Way, from: usize, state: u32) -> Most
+    requires { ⌜ WayIn (now s) way × (state < way .states) × (from + way .states ≤ length (now sums)) ⌝ }
+    ensures { λ r. ⌜ WorstMember (way .inputs) (aheadStored (nextOf (tableIn (now (s .entry)))) way (now (sums .entry)) from state) (r .sum) (r .member) ⌝ }
 {
     let mut rest = way.inputs;
     let mut most = Most { sum: 0, member: 0 };
     while rest != 0 {
         let taken = take_smallest(rest);
         let input = taken.member;
-        let at = from + next_state(next, way.width, state, input) as usize;
+        let at = from + next_in(s, way.start, way.width, state, input) as usize;
         most = larger(most, sums[at], input);
         rest = taken.rest;
     }
@@ -73,11 +72,10 @@ pub fn worst_start(sums: &[u32], from: usize, states: u32) -> Most
 }
 
 // The number at place k, from the row before. In the first row a state has its weight.
-fn sum_at<'a>(next: &'a Rows, weights: &'a Row, sums: &'a [u32], way: Way, k: usize) -> u32
-    requires { ⌜ Steps (nextInRows (now next) (way .width)) way × (k < length (now sums)) × SumsFit way (λ q. getD (now weights) q 0) (now sums) k ⌝ }
-    ensures { λ r. ⌜ r ≡ sumFromStored (nextInRows (now (next .entry)) (way .width)) way (λ q. getD (now (weights .entry)) q 0) (now (sums .entry)) k ⌝ }
+fn sum_at<'a>(images: &'a Row, weights: &'a Row, sums: &'a [u32], states: usize, k: usize) -> u32
+    requires { ⌜ ImagesAmong (now images) states × (k < length (now sums)) × SumsFit (λ q. getD (now weights) q 0) (now sums) k ⌝ }
+    ensures { λ r. ⌜ r ≡ sumFromStored (now (images .entry)) states (λ q. getD (now (weights .entry)) q 0) (now (sums .entry)) k ⌝ }
 {
-    let states = way.states as usize;
     let state = k % states;
     let weight = weights[state];
     if weight == 0 {
@@ -86,19 +84,19 @@ fn sum_at<'a>(next: &'a Rows, weights: &'a Row, sums: &'a [u32], way: Way, k: us
     if k < states {
         return weight;
     }
-    let worst = worst_step(next, sums, way, k - state - states, state as u32);
+    let worst = worst_start(sums, k - state - states, images[state]);
     weight + worst.sum
 }
 
 // All rows, one number after another.
-pub fn fill_sums<'a>(next: &'a Rows, weights: &'a Row, way: Way, moves: u32, sums: &mut [u32])
-    requires { ⌜ Steps (nextInRows (now next) (way .width)) way × (moves ≤ 32) × (moves * way .states ≤ length (now sums)) × ((q : ℕ) → getD (now weights) q 0 ≤ heaviest) ⌝ }
-    ensures { λ _. ⌜ now (sums .exit) ≡ filledTo (sumStored (nextInRows (now (next .entry)) (way .width)) way (λ q. getD (now (weights .entry)) q 0)) (moves * way .states) (now (sums .entry)) ⌝ }
+pub fn fill_sums<'a>(images: &'a Row, weights: &'a Row, states: u32, moves: u32, sums: &mut [u32])
+    requires { ⌜ ImagesAmong (now images) states × (moves ≤ 32) × (moves * states ≤ length (now sums)) × ((q : ℕ) → getD (now weights) q 0 ≤ heaviest) ⌝ }
+    ensures { λ _. ⌜ now (sums .exit) ≡ filledTo (sumStored (now (images .entry)) states (λ q. getD (now (weights .entry)) q 0)) (moves * states) (now (sums .entry)) ⌝ }
 {
-    let total = (moves * way.states) as usize;
+    let total = (moves * states) as usize;
     let mut k = 0;
     while k < total {
-        let sum = sum_at(next, weights, sums, way, k);
+        let sum = sum_at(images, weights, sums, states as usize, k);
         sums[k] = sum;
         k += 1;
     }

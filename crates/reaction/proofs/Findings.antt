@@ -16,13 +16,13 @@ use Rattle.wire.proofs.Choice.{never, both, and-both}
 use Rattle.sets.specs.Sets.{member, meets, Difference}
 use Rattle.sets.proofs.Members.{some-below}
 use Rattle.table.specs.declared.Table.{Table}
-use Rattle.table.specs.Table.{largestBound, longestHold, nextOf, holdOf, delayedOf, delays}
+use Rattle.table.specs.Table.{longestHold, nextOf, holdOf, delayedOf, delays}
 use Rattle.reaction.specs.declared.Answer.the-variants.{Reacts, LeavesStates}
 use Rattle.reaction.specs.declared.Gathered.{Gathered}
 use Rattle.reaction.specs.declared.Gathered.the-variants.{Inside, Leaves}
 use Rattle.reaction.specs.Reaction.{weightOf, weight, firstLeaving, reactionOf}
-use Rattle.reaction.specs.Meaning.{Pairs, NextStates, Slowest, Reaction, Leaving}
-use Rattle.reaction.specs.Walks.{nextInRows, Walkable, FirstLeaving, Finds, PairBelow, placeOf, weightIn, Reaches, IsLargest}
+use Rattle.reaction.specs.Meaning.{Known, Pairs, NextStates, Slowest, Reaction, Leaving}
+use Rattle.reaction.specs.Walks.{FirstLeaving, Finds, PairBelow, placeOf, weightIn, Reaches, IsLargest}
 use Rattle.reaction.proofs.Gathered as GatheredT
 use Rattle.reaction.proofs.Meaning.{AllExist, search-ends, only-answer}
 
@@ -56,12 +56,6 @@ weight-at-least hold E delayed = go ((0 <? hold) and delayed)
 
 module _ {t : Table} {P A : ℕ} (all : AllExist t P A) where
   -- ---- Next states
-
-  pub can-walk : Walkable (nextInRows (t .next) (t .inputs)) (t .inputs) P A
-  can-walk = record {
-    few = all .table .inputs .1;
-    below = λ p a h. omega (arith, all .table .next p a (all .states p (h .0)) (all .inputs a (h .1)), all .table .states);
-  }
 
   module _ {state input : ℕ} (found : FirstLeaving (nextOf t) P (Pairs P A) state input) where
     pair-below : (state < 32) × (input < 32)
@@ -108,23 +102,23 @@ module _ {t : Table} {P A : ℕ} (all : AllExist t P A) where
 
   -- ---- Weights
 
-  pub same-weight : (p : ℕ) → weightIn (t .hold) (t .delayed) (t .bound) A p ≡ weight t A p
+  pub same-weight : (p : ℕ) → weightIn t A p ≡ weight t A p
   same-weight p =
       ap (weightOf (holdOf t p) (t .bound))
       (some-below (t .inputs) 32 (λ a. member A a and delays t p a) (all .table .inputs .1) (λ a h. all .inputs a (both (member A a) _ h .0)))
 
   module _ (target outside : ℕ) (rest : Difference P target outside) where
+    pub outside-known : Known (t .states) outside
+    outside-known p m = all .states p (both (member P p) _ (sym (rest p) ∙ m) .0)
+
     holds-fit : (p : ℕ) → member outside p ≡ true → holdOf t p ≤ longestHold
-    holds-fit p m = all .table .hold p (all .states p (both (member P p) _ (sym (rest p) ∙ m) .0))
+    holds-fit p m = all .table .hold p (outside-known p m)
 
-    pub weights-fit : (t .bound ≤ largestBound) × ((p : ℕ) → member outside p ≡ true → holdOf t p ≤ longestHold)
-    weights-fit = (all .table .bound .1, holds-fit)
-
-    module _ {slowest : ℕ} (found : IsLargest outside (weightIn (t .hold) (t .delayed) (t .bound) A) slowest) where
+    module _ {slowest : ℕ} (found : IsLargest outside (weightIn t A) slowest) where
       pub time-fits : t .bound + slowest ≤ 3780000
       time-fits = go (found .reached)
         where
-          go : (slowest ≡ 0) ⊎ Reaches outside (weightIn (t .hold) (t .delayed) (t .bound) A) slowest → t .bound + slowest ≤ 3780000
+          go : (slowest ≡ 0) ⊎ Reaches outside (weightIn t A) slowest → t .bound + slowest ≤ 3780000
           go (inl e) = omega (arith, all .table .bound)
           go (inr s) =
               let w = weight-at-most (holdOf t (s .at)) (t .bound) (meets A (delayedOf t (s .at))) in
@@ -144,7 +138,7 @@ module _ {t : Table} {P A : ℕ} (all : AllExist t P A) where
               let l = found .covers p (rest p ∙ and-both (member P p) _ m (rw o)) in
               rw (← same-weight p) (omega arith)
 
-          reached : (slowest ≡ 0) ⊎ Reaches outside (weightIn (t .hold) (t .delayed) (t .bound) A) slowest →
+          reached : (slowest ≡ 0) ⊎ Reaches outside (weightIn t A) slowest →
               (t .bound + slowest ≡ t .bound) ⊎ Slowest t P A target (t .bound + slowest)
           reached (inl e) = inl (omega arith)
           reached (inr s) =

@@ -4,25 +4,35 @@ use mathlib.Core.Bool.{true, false}
 use mathlib.Core.Logic.{_⊎_}
 use mathlib.Core.List.{List}
 use Prim.Native.Nat.{ℕ, _+_, _*_, _<_, _≤_}
-use lib.ListN.{getD}
 use Rattle.sets.specs.Sets.{member, meets}
+use Rattle.table.specs.declared.Answer.the-variants.{Passes}
+use Rattle.table.specs.declared.Table.{Table}
+use Rattle.table.specs.Table.{holdOf, delayedOf}
+use Rattle.table.specs.Check.{tableAnswer, tableIn, countsIn, holdField, delayedField}
+use Rattle.rows.specs.Layouts.{NextRows}
 use Rattle.reaction.specs.declared.Gathered.{Gathered}
 use Rattle.reaction.specs.declared.Gathered.the-variants.{Inside, Leaves}
 use Rattle.reaction.specs.Reaction.{weightOf}
-use Rattle.reaction.specs.Meaning.{Pairs, NextStates}
+use Rattle.reaction.specs.Meaning.{Known, Pairs, Comes, NextStates}
 
--- next(p, a) in rows of this width.
-abbrev pub nextInRows : List ℕ → ℕ → ℕ → ℕ → ℕ
-nextInRows rows width p a = getD rows (p * width + a) 0
-
--- Rows over which P and A can be walked.
-pub record Walkable (next : ℕ → ℕ → ℕ) (width P A : ℕ) : Type 0 where
-  pub few : width ≤ 32
-  pub below : (p a : ℕ) → Pairs P A p a → next p a < 32
+-- Rows of next states over which P and A can be walked: the table has such states and inputs.
+pub record Walkable (s : List ℕ) (from width P A : ℕ) : Type 0 where
+  pub rows : NextRows s from width
+  pub states : Known (tableIn s .states) P
+  pub inputs : Known width A
 
 -- One state and a in A.
 abbrev pub From : ℕ → ℕ → ℕ → ℕ → Type 0
 From state A p a = (p ≡ state) × (member A a ≡ true)
+
+-- The set has exactly the members next(p, a), for these pairs.
+pub record Image (next : ℕ → ℕ → ℕ) (Pair : ℕ → ℕ → Type 0) (set : ℕ) : Type 0 where
+  pub has : (p a : ℕ) → Pair p a → member set (next p a) ≡ true
+  pub only : (q : ℕ) → member set q ≡ true → Comes next Pair q
+
+-- Some next(p, a) is outside P.
+abbrev pub SomeLeaves : (ℕ → ℕ → ℕ) → ℕ → (ℕ → ℕ → Type 0) → Type 0
+SomeLeaves next P Pair = (q : ℕ) × Comes next Pair q × (member P q ≡ false)
 
 -- The first of the pairs, by state and then by input, whose next state is outside P.
 pub record FirstLeaving (next : ℕ → ℕ → ℕ) (P : ℕ) (Pair : ℕ → ℕ → Type 0) (state input : ℕ) : Type 0 where
@@ -43,9 +53,17 @@ abbrev pub placeOf : ℕ → Gathered → ℕ
 placeOf width (Inside target) = 0
 placeOf width (Leaves state input) = state * width + input
 
--- The weight of p, from the arrays of holds and of delayed sets.
-abbrev pub weightIn : List ℕ → List ℕ → ℕ → ℕ → ℕ → ℕ
-weightIn holds delayed E A p = weightOf (getD holds p 0) E (meets A (getD delayed p 0))
+-- The bytes of a table with holds: where the entries of fields 05 and 06 start, and its cycle bound.
+pub record Weighable (s : List ℕ) (holds delayed E : ℕ) : Type 0 where
+  pub passes : tableAnswer s ≡ Passes
+  pub no-timers : tableIn s .timers ≡ 0
+  pub holds-start : holds ≡ holdField (countsIn s) + 3
+  pub delayed-start : delayed ≡ delayedField (countsIn s) + 3
+  pub bound : E ≡ tableIn s .bound
+
+-- The weight of p, by the sets as they stand.
+abbrev pub weightIn : Table → (A p : ℕ) → ℕ
+weightIn t A p = weightOf (holdOf t p) (t .bound) (meets A (delayedOf t p))
 
 -- m is the f i of a member i of the set.
 pub record Reaches (set : ℕ) (f : ℕ → ℕ) (m : ℕ) : Type 0 where

@@ -1,17 +1,19 @@
 // The reaction calculator: a table, a set of states and a set of inputs go in; the reaction time and the target set come out.
 ghost use mathlib.Core.Path.{_≡_};
-ghost use mathlib.Core.Bool.{true};
-ghost use Prim.Native.Nat.{ℕ, _<_, _≤_};
-ghost use lib.ListN.{getD};
+ghost use Prim.Native.Nat.{_<_, _≤_};
 ghost use Rattle.wire.specs.Reply.{numberIn, placeIn};
-ghost use Rattle.sets.specs.Sets.{member};
 ghost use Rattle.table.specs.declared.Answer.the-variants.{Passes};
-ghost use Rattle.table.specs.Table.{largestBound, longestHold};
+ghost use Rattle.table.specs.Table.{largestBound, longestHold, nextOf};
 ghost use Rattle.table.specs.Check.{tableAnswer, tableIn};
+ghost use Rattle.rows.specs.Layouts.{NextRows};
 ghost use Rattle.reaction.specs.Answer.{replyOf};
 ghost use Rattle.reaction.specs.Reaction.{weightOf, reactionOf, forHolds, reactOf};
-ghost use Rattle.reaction.specs.Meaning.{Pairs};
-ghost use Rattle.reaction.specs.Walks.{nextInRows, Walkable, From, Finds, PairBelow, placeOf, weightIn, IsLargest};
+ghost use Rattle.reaction.specs.Meaning.{Known, Pairs};
+ghost use Rattle.reaction.specs.Walks.{Walkable, From, Image, SomeLeaves, FirstLeaving, Finds, PairBelow, placeOf, Weighable, weightIn, IsLargest};
+use rows::delayed_in;
+use rows::hold_in;
+use rows::layout_of;
+use rows::next_in;
 use sets::difference;
 use sets::has;
 use sets::meet;
@@ -19,7 +21,6 @@ use sets::single;
 use sets::take_smallest;
 use sets::union;
 use sets::within;
-use table::next_state;
 use table::place_in_rows;
 use wire::larger;
 
@@ -84,40 +85,56 @@ impl Gathered {
     }
 }
 
-// The next states of one state under the inputs.
-fn next_of_state(rows: &[u8; 1024], width: u32, states: u32, inputs: u32, state: u32) -> Gathered
-    requires { ⌜ Walkable (nextInRows (now rows) width) width states inputs × (member states state ≡ true) ⌝ }
-    ensures { λ r. ⌜ Finds (nextInRows (now (rows .entry)) width) states (From state inputs) r ⌝ }
+// The set of next states of one state under the inputs.
+pub fn image_of(s: &[u8], from: usize, width: u32, inputs: u32, state: u32) -> u32
+    requires { ⌜ NextRows (now s) from width × Known width inputs × (state < tableIn (now s) .states) ⌝ }
+    ensures { λ r. ⌜ Image (nextOf (tableIn (now (s .entry)))) (From state inputs) r ⌝ }
 {
     let mut rest = inputs;
-    let mut target = 0;
+    let mut image = 0;
     while rest != 0 {
         let taken = take_smallest(rest);
-        let input = taken.member;
-        let next = next_state(rows, width, state, input);
-        if !has(states, next) {
-            return Gathered::Leaves { state, input };
-        }
-        target = union(target, single(next));
+        let next = next_in(s, from, width, state, taken.member);
+        image = union(image, single(next));
         rest = taken.rest;
     }
-    Gathered::Inside(target)
+    image
 }
 
-// The next states of all the states under the inputs.
-pub fn next_of_states(rows: &[u8; 1024], width: u32, states: u32, inputs: u32) -> Gathered
-    requires { ⌜ Walkable (nextInRows (now rows) width) width states inputs ⌝ }
-    ensures { λ r. ⌜ Finds (nextInRows (now (rows .entry)) width) states (Pairs states inputs) r ⌝ }
+// The first input by which a state leaves the states. It is known that there is one.
+fn leaving_input(s: &[u8], from: usize, width: u32, states: u32, inputs: u32, state: u32) -> u32
+    requires { ⌜ NextRows (now s) from width × Known width inputs × (state < tableIn (now s) .states) × SomeLeaves (nextOf (tableIn (now s))) states (From state inputs) ⌝ }
+    ensures { λ r. ⌜ FirstLeaving (nextOf (tableIn (now (s .entry)))) states (From state inputs) state r ⌝ }
+{
+    let mut left = inputs;
+    while left != 0 {
+        let taken = take_smallest(left);
+        let input = taken.member;
+        let next = next_in(s, from, width, state, input);
+        if !has(states, next) {
+            return input;
+        }
+        left = taken.rest;
+    }
+    0
+}
+
+// The next states of all the states under the inputs. A pair that leaves is looked for only where an image does.
+pub fn next_of_states(s: &[u8], from: usize, width: u32, states: u32, inputs: u32) -> Gathered
+    requires { ⌜ Walkable (now s) from width states inputs ⌝ }
+    ensures { λ r. ⌜ Finds (nextOf (tableIn (now (s .entry)))) states (Pairs states inputs) r ⌝ }
 {
     let mut rest = states;
     let mut target = 0;
     while rest != 0 {
         let taken = take_smallest(rest);
-        let from = next_of_state(rows, width, states, inputs, taken.member);
-        let Gathered::Inside(more) = from else {
-            return from;
-        };
-        target = union(target, more);
+        let state = taken.member;
+        let image = image_of(s, from, width, inputs, state);
+        if difference(image, states) != 0 {
+            let input = leaving_input(s, from, width, states, inputs, state);
+            return Gathered::Leaves { state, input };
+        }
+        target = union(target, image);
         rest = taken.rest;
     }
     Gathered::Inside(target)
@@ -135,39 +152,52 @@ fn weight(hold: u32, bound: u32, delayed: bool) -> u32
     }
 }
 
-// The weight of a state, from the holds and the delayed sets.
-pub fn state_weight<'a>(holds: &'a Row, delayed: &'a Row, bound: u32, inputs: u32, at: u32) -> u32
-    requires { ⌜ (at < 32) × (bound ≤ largestBound) × (getD (now holds) at 0 ≤ longestHold) ⌝ }
-    ensures { λ r. ⌜ r ≡ weightIn (now (holds .entry)) (now (delayed .entry)) bound inputs at ⌝ }
+// The weight of a state, from its hold and its delayed set.
+pub fn state_weight(
+    s: &[u8],
+    holds: usize,
+    delayed: usize,
+    bound: u32,
+    inputs: u32,
+    state: u32,
+) -> u32
+    requires { ⌜ Weighable (now s) holds delayed bound × (state < tableIn (now s) .states) ⌝ }
+    ensures { λ r. ⌜ r ≡ weightIn (tableIn (now (s .entry))) inputs state ⌝ }
 {
-    let state = at as usize;
-    weight(holds[state], bound, meet(inputs, delayed[state]))
+    let hold = hold_in(s, holds, state);
+    let set = delayed_in(s, delayed, state);
+    weight(hold, bound, meet(inputs, set))
 }
 
 // The largest weight of these states; 0 where there is none.
-fn largest_weight<'a>(holds: &'a Row, delayed: &'a Row, bound: u32, states: u32, inputs: u32) -> u32
-    requires { ⌜ (bound ≤ largestBound) × ((p : ℕ) → member states p ≡ true → getD (now holds) p 0 ≤ longestHold) ⌝ }
-    ensures { λ r. ⌜ IsLargest states (weightIn (now (holds .entry)) (now (delayed .entry)) bound inputs) r ⌝ }
+fn largest_weight(
+    s: &[u8],
+    holds: usize,
+    delayed: usize,
+    bound: u32,
+    states: u32,
+    inputs: u32,
+) -> u32
+    requires { ⌜ Weighable (now s) holds delayed bound × Known (tableIn (now s) .states) states ⌝ }
+    ensures { λ r. ⌜ IsLargest states (weightIn (tableIn (now (s .entry))) inputs) r ⌝ }
 {
     let mut rest = states;
     let mut largest = 0;
     while rest != 0 {
         let taken = take_smallest(rest);
-        largest = larger(
-            largest,
-            state_weight(holds, delayed, bound, inputs, taken.member),
-        );
+        let weight = state_weight(s, holds, delayed, bound, inputs, taken.member);
+        largest = larger(largest, weight);
         rest = taken.rest;
     }
     largest
 }
 
-// The answer on a table that passed its check, which is read here: to be handed in whole, it would be copied.
+// The answer on a table that passed its check.
 fn react_checked(table: &[u8], states: u32, inputs: u32) -> Answer
     requires { ⌜ tableAnswer (now table) ≡ Passes ⌝ }
     ensures { λ r. ⌜ r ≡ forHolds Answer.HasTimers (λ t. reactionOf t states inputs) (tableIn (now (table .entry))) ⌝ }
 {
-    let t = table::read(table);
+    let t = layout_of(table);
     if t.timers != 0 {
         return Answer::HasTimers;
     }
@@ -177,12 +207,12 @@ fn react_checked(table: &[u8], states: u32, inputs: u32) -> Answer
     if !within(inputs, t.inputs) {
         return Answer::UnknownInput;
     }
-    let gathered = next_of_states(&t.next, t.inputs, states, inputs);
+    let gathered = next_of_states(table, t.next, t.inputs, states, inputs);
     let Gathered::Inside(target) = gathered else {
         return Answer::LeavesStates(gathered.place(t.inputs));
     };
     let outside = difference(states, target);
-    let time = t.bound + largest_weight(&t.hold, &t.delayed, t.bound, outside, inputs);
+    let time = t.bound + largest_weight(table, t.hold, t.delayed, t.bound, outside, inputs);
     Answer::Reacts { time, target }
 }
 

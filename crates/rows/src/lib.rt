@@ -4,13 +4,25 @@ ghost use Prim.Native.Nat.{_+_, _*_, _<_, _≤_};
 ghost use lib.ListN.{length, getD};
 ghost use Rattle.table.specs.declared.Answer.the-variants.{Passes};
 ghost use Rattle.table.specs.Table.{outputOf, nextOf, holdOf, delayedOf, lengthOf, regionOf, timerSetOf};
-ghost use Rattle.table.specs.Check.{tableAnswer, tableIn, countsIn, holdField};
+ghost use Rattle.table.specs.Check.{tableAnswer, tableIn, countsIn, holdField, delayedField};
+ghost use Rattle.rows.specs.Layouts.{NextRows, LaidOut};
 use table::counts_in;
 use table::place_in_rows;
 use table::places_of;
 use wire::number16;
 use wire::number32;
 use wire::wide;
+
+// The numbers of a table, and where the entries of its fields start: for who asks for many of them. With timers it has no holds.
+pub struct Layout {
+    pub states: u32,
+    pub inputs: u32,
+    pub bound: u32,
+    pub timers: u32,
+    pub next: usize,
+    pub hold: usize,
+    pub delayed: usize,
+}
 
 pub fn states_of(s: &[u8]) -> u32
     requires { ⌜ tableAnswer (now s) ≡ Passes ⌝ }
@@ -41,14 +53,21 @@ pub fn output_of(s: &[u8], state: u32) -> u32
     wide(s[at])
 }
 
+// In rows that start at `from`.
+pub fn next_in(s: &[u8], from: usize, width: u32, state: u32, input: u32) -> u32
+    requires { ⌜ NextRows (now s) from width × (state < tableIn (now s) .states) × (input < width) ⌝ }
+    ensures { λ r. ⌜ r ≡ nextOf (tableIn (now (s .entry))) state input ⌝ }
+{
+    let at = from + place_in_rows(width, state, input);
+    wide(s[at])
+}
+
 pub fn next_of(s: &[u8], state: u32, input: u32) -> u32
     requires { ⌜ (tableAnswer (now s) ≡ Passes) × (state < tableIn (now s) .states) × (input < tableIn (now s) .inputs) ⌝ }
     ensures { λ r. ⌜ r ≡ nextOf (tableIn (now (s .entry))) state input ⌝ }
 {
     let c = counts_in(s);
-    let k = place_in_rows(c.inputs as u32, state, input);
-    let at = 20 + (c.states as usize) + k;
-    wide(s[at])
+    next_in(s, 20 + (c.states as usize), wide(c.inputs), state, input)
 }
 
 // Where the fifth field starts: holds, or timers.
@@ -60,23 +79,61 @@ fn fifth_field(s: &[u8]) -> usize
     p.hold
 }
 
-pub fn timers_of(s: &[u8]) -> u32
-    requires { ⌜ tableAnswer (now s) ≡ Passes ⌝ }
+// How many timers there are, where the fifth field starts at `at`.
+fn timers_at(s: &[u8], at: usize) -> u32
+    requires { ⌜ (tableAnswer (now s) ≡ Passes) × (at ≡ holdField (countsIn (now s))) ⌝ }
     ensures { λ r. ⌜ r ≡ tableIn (now (s .entry)) .timers ⌝ }
 {
-    let at = fifth_field(s);
     if s[at] == 0x07 {
         return number16(s, at + 1) / 8;
     }
     0
 }
 
-// The hold of a state, and the inputs that it delays, in a table without timers.
+pub fn timers_of(s: &[u8]) -> u32
+    requires { ⌜ tableAnswer (now s) ≡ Passes ⌝ }
+    ensures { λ r. ⌜ r ≡ tableIn (now (s .entry)) .timers ⌝ }
+{
+    timers_at(s, fifth_field(s))
+}
+
+pub fn layout_of(s: &[u8]) -> Layout
+    requires { ⌜ tableAnswer (now s) ≡ Passes ⌝ }
+    ensures { λ r. ⌜ LaidOut (now (s .entry)) r ⌝ }
+{
+    let c = counts_in(s);
+    let p = places_of(c);
+    Layout {
+        states: wide(c.states),
+        inputs: wide(c.inputs),
+        bound: number32(s, 10),
+        timers: timers_at(s, p.hold),
+        next: p.next + 3,
+        hold: p.hold + 3,
+        delayed: p.delayed + 3,
+    }
+}
+
+// The hold of a state, and the inputs that it delays, in a table without timers; in fields whose entries start at `from`.
+pub fn hold_in(s: &[u8], from: usize, state: u32) -> u32
+    requires { ⌜ (tableAnswer (now s) ≡ Passes) × (state < tableIn (now s) .states) × (tableIn (now s) .timers ≡ 0) × (from ≡ holdField (countsIn (now s)) + 3) ⌝ }
+    ensures { λ r. ⌜ r ≡ holdOf (tableIn (now (s .entry))) state ⌝ }
+{
+    number32(s, from + 4 * (state as usize))
+}
+
+pub fn delayed_in(s: &[u8], from: usize, state: u32) -> u32
+    requires { ⌜ (tableAnswer (now s) ≡ Passes) × (state < tableIn (now s) .states) × (tableIn (now s) .timers ≡ 0) × (from ≡ delayedField (countsIn (now s)) + 3) ⌝ }
+    ensures { λ r. ⌜ r ≡ delayedOf (tableIn (now (s .entry))) state ⌝ }
+{
+    number32(s, from + 4 * (state as usize))
+}
+
 pub fn hold_of(s: &[u8], state: u32) -> u32
     requires { ⌜ (tableAnswer (now s) ≡ Passes) × (state < tableIn (now s) .states) × (tableIn (now s) .timers ≡ 0) ⌝ }
     ensures { λ r. ⌜ r ≡ holdOf (tableIn (now (s .entry))) state ⌝ }
 {
-    number32(s, fifth_field(s) + 3 + 4 * (state as usize))
+    hold_in(s, fifth_field(s) + 3, state)
 }
 
 pub fn delayed_of(s: &[u8], state: u32) -> u32
@@ -84,7 +141,7 @@ pub fn delayed_of(s: &[u8], state: u32) -> u32
     ensures { λ r. ⌜ r ≡ delayedOf (tableIn (now (s .entry))) state ⌝ }
 {
     let states = counts_in(s).states as usize;
-    number32(s, fifth_field(s) + 6 + 4 * states + 4 * (state as usize))
+    delayed_in(s, fifth_field(s) + 6 + 4 * states, state)
 }
 
 // One of the numbers that field 07 has for the timers.

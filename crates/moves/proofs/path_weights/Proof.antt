@@ -1,17 +1,19 @@
--- The loop keeps `Weighing`.
+-- The loop keeps `Noting`.
 use native.Mathlib.Omega.{arith}
 use borrow.Author.Needs.{needs}
 use Rattle.sets.proofs.Walk.{taken-in}
+use mathlib.Core.Path.{_≡_}
+use Rattle.table.specs.Check.{tableIn}
 use Rattle.reaction.specs.Walks.{weightIn}
-use Rattle.moves.proofs.Weighing.{Weighing, nothing-weighed, one-weighed, all-weighed}
+use Rattle.moves.proofs.Noting.{Noting, none-noted, one-noted, all-noted}
 use Rattle.moves.proofs.path_weights.Statement.{statement}
 use Rattle.moves.proofs.path_weights.Tie as tie
 
 abbrev Inv-loop : tie.InvT-loop
-Inv-loop holds delayed bound states inputs weights₀ rest₀ weights rest = Weighing states (weightIn holds delayed bound inputs) rest weights
+Inv-loop s holds delayed bound states inputs weights₀ rest₀ weights rest = Noting states (λ p w. w ≡ weightIn (tableIn s) inputs p) rest weights
 
 abbrev μ-loop : tie.MeasureT-loop
-μ-loop holds delayed bound states inputs weights₀ rest₀ weights rest = rest
+μ-loop s holds delayed bound states inputs weights₀ rest₀ weights rest = rest
 
 cast-state : tie.Need-cast-state Inv-loop μ-loop
 cast-state c = omega (arith, c .before .take-smallest .ensures .below)
@@ -19,8 +21,8 @@ cast-state c = omega (arith, c .before .take-smallest .ensures .below)
 state-weight-requires : tie.Need-state-weight-requires Inv-loop μ-loop
 state-weight-requires c κs =
     let taken = c .before in
-    let pre = taken .before .before .before .pre in
-    (taken .take-smallest .ensures .below, pre .0, pre .1 _ (taken-in (taken .before .before .loop .inv .walk) (taken .take-smallest .ensures)))
+    let pre = taken .before .before .before .before .pre in
+    (pre .0, pre .1 _ (taken-in (taken .before .before .loop .inv .walk) (taken .take-smallest .ensures)))
 
 mul-weights : tie.Need-mul-weights Inv-loop μ-loop
 mul-weights c = omega (arith, c .before .before .take-smallest .ensures .below)
@@ -34,11 +36,11 @@ loop-less c = c .before .before .take-smallest .ensures .less
 loop-again : tie.Need-loop-again Inv-loop μ-loop
 loop-again c =
     let taken = c .before .before in
-    one-weighed (taken .before .before .loop .inv) (taken .take-smallest .ensures) _ (c .state-weight .ensures)
+    one-noted (taken .before .before .loop .inv) (taken .take-smallest .ensures) _ (c .state-weight .ensures)
 
 returns : tie.Need-returns Inv-loop μ-loop
-returns c = all-weighed (c .before .loop .inv) (search needs)
+returns c = all-noted (c .before .loop .inv) (search needs)
 
 pub path-weights-spec : {M : Type 1} → statement M
 path-weights-spec = tie.close
-    (tie.spec Inv-loop μ-loop (λ c. nothing-weighed) (λ c κs. omega arith) cast-state state-weight-requires mul-weights array-write-weights loop-less loop-again returns)
+    (tie.spec Inv-loop μ-loop (λ c. none-noted) (λ c κs. omega arith) cast-state state-weight-requires mul-weights array-write-weights loop-less loop-again returns)

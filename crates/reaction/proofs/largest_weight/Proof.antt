@@ -2,21 +2,22 @@
 use borrow.Author.Needs.{needs}
 use native.Mathlib.Omega.{arith}
 use Rattle.sets.proofs.Walk.{taken-in}
+use Rattle.table.specs.Check.{tableIn}
 use Rattle.reaction.specs.Walks.{weightIn}
 use Rattle.reaction.proofs.Weights.{OverMembers, none-yet, all-covered, one-more}
 use Rattle.reaction.proofs.largest_weight.Statement.{statement}
 use Rattle.reaction.proofs.largest_weight.Tie as tie
 
 abbrev Inv-loop : tie.InvT-loop
-Inv-loop holds delayed bound states inputs rest₀ largest₀ rest largest = OverMembers states (weightIn holds delayed bound inputs) rest largest
+Inv-loop s holds delayed bound states inputs rest₀ largest₀ rest largest = OverMembers states (weightIn (tableIn s) inputs) rest largest
 
 abbrev μ-loop : tie.MeasureT-loop
-μ-loop holds delayed bound states inputs rest₀ largest₀ rest largest = rest
+μ-loop s holds delayed bound states inputs rest₀ largest₀ rest largest = rest
 
 state-weight-requires : tie.Need-state-weight-requires Inv-loop μ-loop
 state-weight-requires c κs =
-    let pre = c .before .before .before .pre in
-    (c .take-smallest .ensures .below, pre .0, pre .1 _ (taken-in (c .before .before .loop .inv .walk) (c .take-smallest .ensures)))
+    let pre = c .before .before .before .before .pre in
+    (pre .0, pre .1 _ (taken-in (c .before .before .loop .inv .walk) (c .take-smallest .ensures)))
 
 loop-less : tie.Need-loop-less Inv-loop μ-loop
 loop-less c = c .before .before .take-smallest .ensures .less

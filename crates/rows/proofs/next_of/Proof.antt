@@ -1,7 +1,8 @@
--- The next states stand in field 04.
-use mathlib.Core.Path.{_∙_}
+-- Where the rows of next states start.
+use mathlib.Core.Path.{sym, ap, _∙_}
 use native.Mathlib.Omega.{arith}
-use Rattle.rows.proofs.InPlace.{states-are, inputs-are, stands, fit, fifth, next-at, row-before}
+use Rattle.table.specs.declared.Counts.{Counts}
+use Rattle.rows.proofs.InPlace.{inputs-are, stands}
 use borrow.Author.Needs.{needs}
 use Rattle.rows.proofs.next_of.Statement.{statement}
 use Rattle.rows.proofs.next_of.Tie as tie
@@ -9,33 +10,14 @@ use Rattle.rows.proofs.next_of.Tie as tie
 counts-in-requires : tie.Need-counts-in-requires
 counts-in-requires c κs = omega (arith, stands _ (c .before .pre .0) .counts-field .fits)
 
-place-in-rows-requires : tie.Need-place-in-rows-requires
-place-in-rows-requires c κs =
-    let pre = c .before .before .before .pre in
-    let f = fit _ (pre .0) in
-    let q = rw (states-are _ (pre .0)) at (pre .1) in
-    let i = rw (inputs-are _ (pre .0)) at (pre .2) in
-    (rw (c .before .counts-in .ensures) (f .inputs .1), omega (arith, q, f .states .1), omega (arith, i, f .inputs .1))
-
-shared-slice-read-wide : tie.Need-shared-slice-read-wide
-shared-slice-read-wide c =
-    let pre = c .before .before .before .before .before .before .pre in
-    let counts = c .before .before .before .before .counts-in .ensures in
-    let place = rw counts at (c .before .before .place-in-rows .ensures .0) in
-    let q = rw (states-are _ (pre .0)) at (pre .1) in
-    let i = rw (inputs-are _ (pre .0)) at (pre .2) in
-    rw counts (omega (arith, place, row-before _ _ _ _ q i, fifth _ (pre .0)))
-
-returns : tie.Need-returns
-returns c =
-    let pre = c .before .before .before .before .before .before .before .pre in
-    let counts = c .before .before .before .before .before .counts-in .ensures in
-    let place = rw counts at (c .before .before .before .place-in-rows .ensures .0) in
-    let q = rw (states-are _ (pre .0)) at (pre .1) in
-    let i = rw (inputs-are _ (pre .0)) at (pre .2) in
-    c .wide .ensures .0 ∙ next-at _ (pre .0) _ _ _ q i (rw counts (omega (arith, place)))
+next-in-requires : tie.Need-next-in-requires
+next-in-requires c κs =
+    let counts = c .before .before .counts-in .ensures in
+    let pre = c .before .before .before .before .pre in
+    let w = c .wide .ensures .0 ∙ ap (λ (k : Counts). k .inputs) counts ∙ sym (inputs-are _ (pre .0)) in
+    let from = ap (λ (k : Counts). k .states) counts in
+    (record { passes = pre .0; starts = omega (arith, from); wide = w }, pre .1, omega (arith, w, pre .2))
 
 pub next-of-spec : {M : Type 1} → statement M
-next-of-spec =
-    tie.close
-    (tie.spec counts-in-requires (λ c. search needs) place-in-rows-requires (λ c. search needs) (λ c. search needs) (λ c. search needs) shared-slice-read-wide (λ c κs. search needs) returns)
+next-of-spec = tie.close
+    (tie.spec counts-in-requires (λ c. search needs) (λ c. search needs) (λ c κs. search needs) next-in-requires (λ c. search needs))

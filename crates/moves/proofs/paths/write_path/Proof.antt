@@ -11,7 +11,7 @@ returns c = no-path _ _ _ _ _ _ _ (c .if1 .taken)
 
 state-step-requires : tie.Need-state-step-requires
 state-step-requires c κs =
-    let pre = c .before .before .before .before .before .pre in
+    let pre = c .before .before .before .before .before .before .pre in
     let begins = ⊎-elim (λ z. absurd (c .before .if1 .left z)) (λ l. l) (pre .1) in
     (pre .0, begins, pre .2, pre .3, omega (arith, pre .4))
 
