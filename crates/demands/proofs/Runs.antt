@@ -2,27 +2,28 @@
 use mathlib.Core.Path.{_≡_, sym}
 use mathlib.Core.Bool.{Bool, true, false}
 use mathlib.Core.Logic.{_⊎_, inl, inr}
-use Prim.Native.Nat.{ℕ, _+_, _-_, _*_, _≤_}
+use Prim.Native.Nat.{ℕ, _+_, _≤_}
 use native.Mathlib.Omega.{arith}
-use Rattle.wire.specs.Choice.{if_then_else_}
 use Rattle.wire.proofs.Choice.{and-both}
 use Rattle.sets.specs.Sets.{member}
 use Rattle.table.specs.declared.Table.{Table}
-use Rattle.table.specs.Table.{holdOf, WellFormed}
+use Rattle.table.specs.Table.{WellFormed}
 use Rattle.machine.proofs.Watches.{no-regions}
 use Rattle.reaction.specs.declared.Answer.the-variants.{Reacts}
-use Rattle.reaction.specs.Reaction.{nextSet, fromHold, weight}
+use Rattle.reaction.specs.Reaction.{nextSet, weight}
 use Rattle.reaction.specs.Meaning.{Slowest, Reaction}
 use Rattle.reaction.proofs.Meaning.{AllExist, target-has, target-only, same-target, means}
-use Rattle.tight.specs.Tight.{needOf, tightTime}
+use Rattle.tight.specs.Tight.{tightTime}
+use Rattle.tight.specs.Several.{tightWeight}
 use Rattle.tight.proofs.Time.{tight-covers, tight-at-least}
+use Rattle.tight.proofs.Several.{need-by-weight}
 use Rattle.runs.specs.Accepted.{Accepted}
 use Rattle.runs.specs.Reaction.{Weights}
 use Rattle.runs.proofs.Automaton.{machine-is-automaton}
 use Rattle.runs.proofs.Soon.{not-too-soon, not-too-soon-by}
 use Rattle.runs.proofs.OneMove.{one-move}
-use Rattle.laws.proofs.InTime.{weighing, weights, calculated-weights, moves-in-time}
-use Rattle.demands.specs.Runs.{InTime, EveryRun, RunsNotTooSoon, RunsNotTooSoonBy, Calculated, RunsNotTooLate, RunsNotTooLateByMoves, RunsNotTooLateTight}
+use Rattle.laws.proofs.InTime.{calculated-weights, tight-weights, moves-in-time, tight-in-time}
+use Rattle.demands.specs.Runs.{InTime, EveryRun, RunsNotTooSoon, RunsNotTooSoonBy, Calculated, RunsNotTooLate, RunsNotTooLateByMoves, RunsNotTooLateTight, RunsNotTooLateTightByMoves}
 
 -- The machine takes every run.
 taken : (t : Table) → WellFormed t → EveryRun t (Accepted t)
@@ -41,19 +42,6 @@ runs-not-too-soon-by t ok k real input records T run = not-too-soon-by t ok k re
 covers-bound : {t : Table} {P A target time : ℕ} → (time ≡ t .bound) ⊎ Slowest t P A target time → t .bound ≤ time
 covers-bound (inl e) = omega arith
 covers-bound (inr slowest) = omega (arith, slowest .is)
-
--- In whole ticks a weight of hold + 2E - 1 is large enough.
-abbrev snug : Table → ℕ → ℕ
-snug t q = holdOf t q + 2 * t .bound - 1
-
-snug-fits : (t : Table) (A c p : ℕ) → needOf t A p ≤ c → t .bound + weighing t A (snug t) p ≤ c + 1
-unfolding needOf
-snug-fits t A c p = go (fromHold t A p)
-  where
-    go : (b : Bool) → (if b then holdOf t p + 3 * t .bound - 2 else 2 * t .bound - 1) ≤ c →
-        t .bound + (if b then snug t p else t .bound) ≤ c + 1
-    go true l = omega arith
-    go false l = omega arith
 
 module _ {t : Table} {P A c target : ℕ} (given : Calculated t P A c target) where
   ok : WellFormed t
@@ -87,11 +75,13 @@ module _ {t : Table} {P A c target : ℕ} (given : Calculated t P A c target) wh
       in-time (weight t A) (calculated-weights t A (ok .bound .0) (r .inputs)) c (covers-bound (r .reached))
       (λ p x y. omega (arith, r .covers p x y))
 
+  -- A state needs E - 1 and its tight weight.
   tight : EveryRun t (λ input records T. InTime t input records T P A (tightTime t P A) target)
   tight =
-      in-time (weighing t A (snug t)) (weights t A (snug t) (ok .bound .0) (λ q. omega arith) (r .inputs)) (tightTime t P A)
-      (tight-at-least t P A (ok .bound .0))
-      (λ p x y. snug-fits t A (tightTime t P A) p (tight-covers t P A (ok .bound .0) p (r .states p x) (and-both (member P p) _ x (rw (← target-is, y)))))
+      in-time (tightWeight t A) (tight-weights t A (ok .bound .0) (r .inputs)) (tightTime t P A) (tight-at-least t P A (ok .bound .0))
+      (λ p x y.
+      let needs = tight-covers t P A (ok .bound .0) p (r .states p x) (and-both (member P p) _ x (rw (← target-is, y))) in
+      omega (arith, need-by-weight t A p (ok .bound .0)))
 
 pub runs-not-too-late : RunsNotTooLate
 runs-not-too-late t P A c target given = one given
@@ -102,3 +92,7 @@ runs-not-too-late-by-moves t P A c target given n input records T run =
 
 pub runs-not-too-late-tight : RunsNotTooLateTight
 runs-not-too-late-tight t P A c target given = tight given
+
+pub runs-not-too-late-tight-by-moves : RunsNotTooLateTightByMoves
+runs-not-too-late-tight-by-moves t P A c target given n input records T run =
+    tight-in-time (all given) (r given .next .inside) n (given .no-timers) input records T (taken t (given .well-formed) input records T run)

@@ -11,10 +11,11 @@ use Rattle.laws.proofs.Journals.{checks-exactly, checks-short-exactly}
 use Rattle.laws.proofs.Runtimes.{runs-exactly, writes-the-journal}
 use Rattle.laws.proofs.Moves.{moves-told}
 use Rattle.laws.proofs.OneMove.{one-move}
+use Rattle.laws.proofs.Tight.{tight-over-means, tight-over-below, tight-of-none, tight-of-one}
 use Rattle.demands.specs.Statements.{TheDemands}
 use Rattle.demands.proofs.Contracts.{every-entry-determines, every-refusal-keeps}
 use Rattle.demands.proofs.Calculators.{answer-means, entry-means, fourteen-comes, ten-comes}
-use Rattle.demands.proofs.Runs.{runs-not-too-soon, runs-not-too-soon-by, runs-not-too-late, runs-not-too-late-by-moves, runs-not-too-late-tight}
+use Rattle.demands.proofs.Runs.{runs-not-too-soon, runs-not-too-soon-by, runs-not-too-late, runs-not-too-late-by-moves, runs-not-too-late-tight, runs-not-too-late-tight-by-moves}
 use Rattle.demands.proofs.Demands.{accepted-is-run, accepted-not-too-soon, accepted-not-too-soon-by, accepted-not-too-late, accepted-not-too-late-by-moves}
 use Rattle.demands.proofs.Tight.{tight-not-too-late}
 
@@ -37,6 +38,10 @@ the-demands = (
     several-moves = moves-told;
     several-is-one = one-move;
     tight = never-above;
+    tight-moves = tight-over-means;
+    tight-moves-below = tight-over-below;
+    tight-none = tight-of-none;
+    tight-one = tight-of-one;
   },
   record {
     every-hold = runs-not-too-soon;
@@ -49,6 +54,7 @@ the-demands = (
     journal-moves = accepted-not-too-late-by-moves;
     every-tight = runs-not-too-late-tight;
     journal-tight = tight-not-too-late;
+    every-tight-moves = runs-not-too-late-tight-by-moves;
   },
   record {
     as-runtime = live-is-whole stimulus;

@@ -10,8 +10,9 @@ use Rattle.table.specs.Table.{holdOf, delays, lengthOf, inRegion, timerDelays, 
 use Rattle.records.specs.declared.Record.{Record}
 use Rattle.reaction.specs.declared.Answer.the-variants.{Reacts}
 use Rattle.reaction.specs.Reaction.{reactionOf}
-use Rattle.moves.specs.Moves.{reactionOver}
+use Rattle.moves.specs.Moves.{nextTimes, reactionOver}
 use Rattle.tight.specs.Tight.{tightTime}
+use Rattle.tight.specs.Several.{tightTimeOver}
 use Rattle.runs.specs.Automaton.{RunOf}
 use Rattle.runs.specs.Slots.{inputAt, stateAt, EnteredAt, regionEntry}
 
@@ -73,7 +74,12 @@ abbrev pub RunsNotTooLateByMoves : Type 0
 RunsNotTooLateByMoves = (t : Table) (P A c target : ℕ) → Calculated t P A c target → (n : ℕ) →
     EveryRun t (λ input records T. InTime t input records T P A (reactionOver t P A n .time) (reactionOver t P A n .target))
 
--- .. and with the tight time in the place of c.
+-- .. with the tight time in the place of c ..
 abbrev pub RunsNotTooLateTight : Type 0
 RunsNotTooLateTight = (t : Table) (P A c target : ℕ) → Calculated t P A c target →
     EveryRun t (λ input records T. InTime t input records T P A (tightTime t P A) target)
+
+-- .. and with the tight time for any number of moves.
+abbrev pub RunsNotTooLateTightByMoves : Type 0
+RunsNotTooLateTightByMoves = (t : Table) (P A c target : ℕ) → Calculated t P A c target → (n : ℕ) →
+    EveryRun t (λ input records T. InTime t input records T P A (tightTimeOver t P A n) (nextTimes t P A n))

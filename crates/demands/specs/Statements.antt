@@ -8,9 +8,10 @@ use Rattle.laws.specs.Tables.{PassesExactly, HoldsThatTable}
 use Rattle.laws.specs.Journals.{ChecksExactly}
 use Rattle.laws.specs.Runtimes.{RunsExactly, WritesTheJournal}
 use Rattle.laws.specs.Moves.{MovesTold, OneMove}
+use Rattle.laws.specs.Tight.{TightOverMeans, TightOverBelow, TightOfNone, TightOfOne}
 use Rattle.demands.specs.Contracts.{EveryEntryDetermines, EveryRefusalKeeps}
 use Rattle.demands.specs.Calculators.{AnswerMeans, EntryMeans, FourteenComes, TenComes}
-use Rattle.demands.specs.Runs.{RunsNotTooSoon, RunsNotTooSoonBy, RunsNotTooLate, RunsNotTooLateByMoves, RunsNotTooLateTight}
+use Rattle.demands.specs.Runs.{RunsNotTooSoon, RunsNotTooSoonBy, RunsNotTooLate, RunsNotTooLateByMoves, RunsNotTooLateTight, RunsNotTooLateTightByMoves}
 use Rattle.demands.specs.Demands.{AcceptedIsRun, NotTooSoon, NotTooSoonBy, NotTooLate, NotTooLateByMoves}
 use Rattle.demands.specs.Tight.{TightNotTooLate}
 
@@ -54,6 +55,11 @@ pub record Right : Type 0 where
   pub several-is-one : OneMove
   -- The tight time is beside the time and target of one move, never above the time, and below it by as much as the rules say.
   pub tight : NeverAbove
+  -- For several moves it is what the rules say, and below their time by as much; for none it is E, and for one that of one move.
+  pub tight-moves : TightOverMeans
+  pub tight-moves-below : TightOverBelow
+  pub tight-none : TightOfNone
+  pub tight-one : TightOfOne
 
 -- 3. An accepted journal keeps to the holds and to the calculated times; and so does every run of the automaton, of any length.
 pub record Kept : Type 0 where
@@ -69,9 +75,11 @@ pub record Kept : Type 0 where
   -- .. by several ..
   pub every-moves : RunsNotTooLateByMoves
   pub journal-moves : NotTooLateByMoves
-  -- .. and with the tight time.
+  -- .. with the tight time ..
   pub every-tight : RunsNotTooLateTight
   pub journal-tight : TightNotTooLate
+  -- .. and with that for several moves.
+  pub every-tight-moves : RunsNotTooLateTightByMoves
 
 -- And all of it one record at a time, in a memory that the host keeps: docs/RULES.md, "Live runs".
 pub record OneAtATime : Type 0 where

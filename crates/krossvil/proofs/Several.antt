@@ -14,7 +14,7 @@ use Rattle.table.specs.Table.{WellFormed}
 use Rattle.table.specs.Check.{tableIn}
 use Rattle.table.proofs.Under.{under-either}
 use Rattle.table.proofs.WellFormed.{well-formed}
-use Rattle.reaction.specs.Reaction.{firstLeaving, forHolds}
+use Rattle.reaction.specs.Reaction.{firstLeaving, forHolds, weight}
 use Rattle.moves.specs.declared.Judged.{Judged}
 use Rattle.moves.specs.declared.Judged.the-variants.{Passes, TableRefused, HasTimers, UnknownState, UnknownInput, TooManyMoves, LeavesStates, NoRoom}
 use Rattle.moves.specs.declared.Reaction.{Reaction}
@@ -100,7 +100,7 @@ module _ (s : List ℕ) (P A n : ℕ) (sums path answer : List ℕ) where
     unfolding reactionOver
     length-small is =
         let f = fits s P A n (length sums) (length path) (ap judgedPasses? passed) in
-        rw is (omega (arith, worst-short (tableIn s) P A (nextTimes (tableIn s) P A n) n, f .few))
+        rw is (omega (arith, worst-short (tableIn s) P A (nextTimes (tableIn s) P A n) (weight (tableIn s) A) n, f .few))
 
     replies : gives numbers ≡ replyOf (movesOf s P A n (length sums) (length path))
     replies = ap replyOf (reacts s P A n sums path passed .0)

@@ -216,43 +216,43 @@ module _ (t : Table) (few : t .states ≤ 32) (uses : Uses (t .states) 32 (t .de
   unfolding judge firstLeaving emptied
   judge-same P A n sums path = refl
 
-  module _ (P A N : ℕ) where
-    round-same : (row : List ℕ) → round t′ P A N row ≡ round t P A N row
+  module _ (P A N : ℕ) {w′ w : ℕ → ℕ} (same : w′ ≡ w) where
+    round-same : (row : List ℕ) → round t′ P A N w′ row ≡ round t P A N w row
     unfolding round emptied
-    round-same row = ap (λ w. values (λ q. if offTarget P N q then w q + mostAhead t P A N row q else 0) (t .states)) (weights-same A)
+    round-same row = ap (λ w. values (λ q. if offTarget P N q then w q + mostAhead t P A N row q else 0) (t .states)) same
 
-    sums-same : (k : ℕ) → sumsOf t′ P A N k ≡ sumsOf t P A N k
+    sums-same : (k : ℕ) → sumsOf t′ P A N w′ k ≡ sumsOf t P A N w k
     unfolding sumsOf emptied
     sums-same zero = refl
-    sums-same (suc k) = ap (round t′ P A N) (sums-same k) ∙ round-same (sumsOf t P A N k)
+    sums-same (suc k) = ap (round t′ P A N w′) (sums-same k) ∙ round-same (sumsOf t P A N w k)
 
-    rows-same : (n : ℕ) → rows t′ P A N n ≡ rows t P A N n
+    rows-same : (n : ℕ) → rows t′ P A N w′ n ≡ rows t P A N w n
     unfolding rows
     rows-same zero = refl
     rows-same (suc n) = rw (rows-same n, sums-same (suc n)) refl
 
-    from-same : (follow q : ℕ) → pathFrom t′ P A N follow q ≡ pathFrom t P A N follow q
+    from-same : (follow q : ℕ) → pathFrom t′ P A N w′ follow q ≡ pathFrom t P A N w follow q
     unfolding pathFrom emptied
     from-same zero q = refl
     from-same (suc k) q = rw (sums-same (suc k), from-same k _) refl
 
-    largest-same : (n : ℕ) → largestSum t′ P A N n ≡ largestSum t P A N n
+    largest-same : (n : ℕ) → largestSum t′ P A N w′ n ≡ largestSum t P A N w n
     unfolding largestSum emptied
     largest-same n = rw (sums-same n) refl
 
-    path-same : (n : ℕ) → worstPath t′ P A N n ≡ worstPath t P A N n
+    path-same : (n : ℕ) → worstPath t′ P A N w′ n ≡ worstPath t P A N w n
     unfolding worstPath worstStart emptied
     path-same n = rw (largest-same n, sums-same n, from-same (n - 1) _) refl
 
   module _ (P A n : ℕ) where
     pub over-same : reactionOver t′ P A n ≡ reactionOver t P A n
     unfolding reactionOver emptied
-    over-same = rw (target-same P A n, largest-same P A (nextTimes t P A n) n, path-same P A (nextTimes t P A n) n) refl
+    over-same = rw (target-same P A n, largest-same P A (nextTimes t P A n) (weights-same A) n, path-same P A (nextTimes t P A n) (weights-same A) n) refl
 
     pub rows-over-same : (sums : List ℕ) → sumsOver t′ P A n sums ≡ sumsOver t P A n sums
     unfolding sumsOver emptied
-    rows-over-same sums = rw (target-same P A n, rows-same P A (nextTimes t P A n) n) refl
+    rows-over-same sums = rw (target-same P A n, rows-same P A (nextTimes t P A n) (weights-same A) n) refl
 
     pub path-over-same : (path : List ℕ) → pathOver t′ P A n path ≡ pathOver t P A n path
     unfolding pathOver
-    path-over-same path = rw (target-same P A n, path-same P A (nextTimes t P A n) n) refl
+    path-over-same path = rw (target-same P A n, path-same P A (nextTimes t P A n) (weights-same A) n) refl

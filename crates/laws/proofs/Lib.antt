@@ -23,3 +23,4 @@ pub mod Targets
 pub mod Moves
 pub mod OneMove
 pub mod InTime
+pub mod Tight

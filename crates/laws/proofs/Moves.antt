@@ -10,12 +10,14 @@ use Rattle.wire.specs.Choice.{if_then_else_}
 use Rattle.wire.proofs.Apart.{apart}
 use Rattle.table.specs.declared.Table.{Table}
 use Rattle.table.specs.Check.{tableIn}
+use Rattle.reaction.specs.Reaction.{weight}
 use Rattle.reaction.proofs.Meaning.{stays}
 use Rattle.moves.specs.declared.Reaction.{Reaction}
 use Rattle.moves.specs.declared.Answer.the-variants.{Reacts, Refused}
 use Rattle.moves.specs.Answer.{judgedPasses?}
 use Rattle.moves.specs.Moves.{nextTimes, rows, largestSum, judgeOf, reactionOver, sumsOver, pathOver, movesOf, sumsAfter, pathAfter}
 use Rattle.laws.specs.Moves.{Told, MovesTold}
+use Rattle.laws.proofs.Rounds.{weight-positive}
 use Rattle.laws.proofs.Paths.{sums-are-largest, largest-is-of-all, written-is-worst}
 use Rattle.laws.proofs.Targets.{target-is, no-longer}
 use Rattle.moves.proofs.Fitting.{Fits, fits}
@@ -30,7 +32,9 @@ module _ {t : Table} {P A n : ℕ} {room room′ : ℕ} (ok : Fits t P A n room 
       let N = nextTimes t P A n in
       let all = ok .all in
       let inside = stays all (ok .search) in
-      let written = written-is-worst t (all .table) P A N (all .states) (all .inputs) n in
+      let w = weight t A in
+      let some = weight-positive all in
+      let written = written-is-worst t (all .table) P A N w some (all .states) (all .inputs) n in
       record {
         table = all .table;
         no-timers = ok .no-timers;
@@ -40,10 +44,10 @@ module _ {t : Table} {P A n : ℕ} {room room′ : ℕ} (ok : Fits t P A n room 
         inside = inside;
         target = target-is all n;
         no-longer = no-longer all inside n;
-        time = (largestSum t P A N n, largest-is-of-all t (all .table) P A N (all .states) (all .inputs) n, refl);
+        time = (largestSum t P A N w n, largest-is-of-all t (all .table) P A N w some (all .states) (all .inputs) n, refl);
         each-sum = λ row q h l.
-            let e = List·getD-append (rows t P A N n) (drop (n * t .states) sums) 0 (row * t .states + q) (rw (length-rows t P A N n) (digits-lt h l)) in
-            rw (e, row-at t P A N n row q h l) (sums-are-largest t (all .table) P A N (all .states) (all .inputs) (row + 1) q l);
+            let e = List·getD-append (rows t P A N w n) (drop (n * t .states) sums) 0 (row * t .states + q) (rw (length-rows t P A N w n) (digits-lt h l)) in
+            rw (e, row-at t P A N w n row q h l) (sums-are-largest t (all .table) P A N w some (all .states) (all .inputs) (row + 1) q l);
         worst = rw take-append-seam (written .0);
         path-sum = rw take-append-seam (ap (λ sum. t .bound + sum) (sym (written .1)));
       }

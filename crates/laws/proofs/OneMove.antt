@@ -32,7 +32,7 @@ use Rattle.moves.specs.Moves.{nextTimes, sumsOf, largestSum, judge, judgeOf, re
 use Rattle.laws.specs.Moves.{withoutLength, OneMove}
 use Rattle.laws.proofs.Rounds.{exists, passed, on-path, none-ahead}
 
-largest-same : (n : ℕ) (test : ℕ → Bool) (f g : ℕ → ℕ) → ((i : ℕ) → test i ≡ true → f i ≡ g i) → largest n test f ≡ largest n test g
+pub largest-same : (n : ℕ) (test : ℕ → Bool) (f g : ℕ → ℕ) → ((i : ℕ) → test i ≡ true → f i ≡ g i) → largest n test f ≡ largest n test g
 unfolding largest
 largest-same zero test f g same = refl
 largest-same (suc n) test f g same = rw (largest-same n test f g same, last (test n) refl)
@@ -44,15 +44,15 @@ largest-same (suc n) test f g same = rw (largest-same n test f g same, last (tes
 -- ---- Time and target
 
 module _ {t : Table} {P A : ℕ} (all : AllExist t P A) where
-  row-of-weights : (N q : ℕ) → offTarget P N q ≡ true → getD (sumsOf t P A N 1) q 0 ≡ weight t A q
-  row-of-weights N q e =
+  pub row-of-weights : (N : ℕ) (w : ℕ → ℕ) (q : ℕ) → offTarget P N q ≡ true → getD (sumsOf t P A N w 1) q 0 ≡ w q
+  row-of-weights N w q e =
       let on = passed all N q e in
-      let none = none-ahead all N q (exists all N on) in
-      on-path all N 0 q on ∙ omega arith
+      let none = none-ahead all N w q (exists all N on) in
+      on-path all N w 0 q on ∙ omega arith
 
   same-time : reactionOver t P A 1 .time ≡ reactionTime t P A
   unfolding reactionOver reactionTime nextTimes largestSum
-  same-time = ap (λ n. t .bound + n) (largest-same (t .states) (offTarget P (nextSet t P A)) _ (weight t A) (row-of-weights (nextSet t P A)))
+  same-time = ap (λ n. t .bound + n) (largest-same (t .states) (offTarget P (nextSet t P A)) _ (weight t A) (row-of-weights (nextSet t P A) (weight t A)))
 
   same-target : reactionOver t P A 1 .target ≡ nextSet t P A
   unfolding reactionOver nextTimes

@@ -20,7 +20,7 @@ use Rattle.moves.specs.Moves.{ahead, mostAhead, worstInput, sumsOf, pathFrom, l
 use Rattle.laws.specs.Paths.{statesIn, Begins, sumOf, OnPath, Follows, Path, PathOf, LargestFrom, Largest, ByTurns, SmallestInputs, Worst}
 use Rattle.laws.specs.Paths.{SumsAreLargest, LargestOfAll, WrittenIsWorst}
 use Rattle.moves.proofs.Smallest.{IsWorst, worst-found}
-use Rattle.laws.proofs.Rounds.{weight-positive, exists, next-exists, tested, passed, before, on-path, off-path, has-sum, ahead-most, none-ahead}
+use Rattle.laws.proofs.Rounds.{exists, next-exists, tested, passed, before, on-path, off-path, has-sum, ahead-most, none-ahead}
 
 begins-states : {row : List ℕ} {q : ℕ} → Begins row q → Begins (statesIn row) q
 begins-states {row} {q} b = rw (b .1) (go (b .0))
@@ -29,7 +29,7 @@ begins-states {row} {q} b = rw (b .1) (go (b .0))
     go [] = ([], refl)
     go (a ∷ rest) = (statesIn rest, refl)
 
-module _ {t : Table} {P A : ℕ} (all : AllExist t P A) (N : ℕ) where
+module _ {t : Table} {P A : ℕ} (all : AllExist t P A) (N : ℕ) (w : ℕ → ℕ) (positive : (q : ℕ) → 0 < w q) where
   -- ---- Paths, state by state
 
   path-on : {q p : ℕ} {path : List ℕ} → OnPath P N q → Follows t A q p → Begins path p → Path t P A N path → Path t P A N (q ∷ path)
@@ -44,18 +44,18 @@ module _ {t : Table} {P A : ℕ} (all : AllExist t P A) (N : ℕ) where
 
   -- ---- No path has a larger sum
 
-  none-larger : (k q : ℕ) (rest : List ℕ) → PathOf t P A N k (q ∷ rest) → sumOf t A (q ∷ rest) ≤ getD (sumsOf t P A N k) q 0
+  none-larger : (k q : ℕ) (rest : List ℕ) → PathOf t P A N k (q ∷ rest) → sumOf w (q ∷ rest) ≤ getD (sumsOf t P A N w k) q 0
   unfolding sumOf
   none-larger zero q rest is = absurd (let z : ⊥ = omega (arith, is .1) in z)
-  none-larger (suc k) q [] is = rw (on-path all N k q (is .0)) (omega arith)
+  none-larger (suc k) q [] is = rw (on-path all N w k q (is .0)) (omega arith)
   none-larger (suc k) q (p ∷ rest) is =
       let on = is .0 .0 in
       let follows = is .0 .1 in
       let l = none-larger k p rest (is .0 .2, omega (arith, is .1)) in
-      let m = rw (follows .is) at (ahead-most all N k q (follows .input) (follows .is-in)) in
-      rw (on-path all N k q on) (omega arith)
+      let m = rw (follows .is) at (ahead-most all N w k q (follows .input) (follows .is-in)) in
+      rw (on-path all N w k q on) (omega arith)
 
-  bounded : (k q : ℕ) (path : List ℕ) → Begins path q → PathOf t P A N k path → sumOf t A path ≤ getD (sumsOf t P A N k) q 0
+  bounded : (k q : ℕ) (path : List ℕ) → Begins path q → PathOf t P A N k path → sumOf w path ≤ getD (sumsOf t P A N w k) q 0
   bounded k q path b is = rw (b .1) (none-larger k q (b .0) (rw (b .1) at is))
 
   -- ---- What is written from a state on
@@ -64,27 +64,27 @@ module _ {t : Table} {P A : ℕ} (all : AllExist t P A) (N : ℕ) where
     begins : Begins row q
     by-turns : ByTurns t A row
     is-path : PathOf t P A N (suc k) (statesIn row)
-    sum : sumOf t A (statesIn row) ≡ getD (sumsOf t P A N (suc k)) q 0
-    inputs : SmallestInputs t P A N (suc k) row
+    sum : sumOf w (statesIn row) ≡ getD (sumsOf t P A N w (suc k)) q 0
+    inputs : SmallestInputs t P A N w (suc k) row
     bytes : length row ≡ 2 * length (statesIn row) - 1
 
-  stops : (k q : ℕ) → OnPath P N q → mostAhead t P A N (sumsOf t P A N k) q ≡ 0 → From k q (q ∷ [])
+  stops : (k q : ℕ) → OnPath P N q → mostAhead t P A N (sumsOf t P A N w k) q ≡ 0 → From k q (q ∷ [])
   unfolding sumOf
   stops k q on none = record {
     begins = ([], refl);
     by-turns = tt;
     is-path = (on, omega arith);
-    sum = rw (on-path all N k q on) (omega arith);
+    sum = rw (on-path all N w k q on) (omega arith);
     inputs = tt;
     bytes = refl;
   }
 
-  module _ (k q : ℕ) (on : OnPath P N q) (a : ℕ) (worst : IsWorst (t .inputs) (member A) (ahead t P A N (sumsOf t P A N (suc k)) q) a) where
+  module _ (k q : ℕ) (on : OnPath P N q) (a : ℕ) (worst : IsWorst (t .inputs) (member A) (ahead t P A N (sumsOf t P A N w (suc k)) q) a) where
     keeps : {rest : List ℕ} → From k (nextOf t q a) rest → (b : ℕ) → member A b ≡ true → (path : List ℕ) → Begins path (nextOf t q b) →
-        PathOf t P A N (suc k) path → sumOf t A path ≡ sumOf t A (statesIn rest) → a ≤ b
+        PathOf t P A N (suc k) path → sumOf w path ≡ sumOf w (statesIn rest) → a ≤ b
     keeps from b m path begins is same =
         let l = bounded (suc k) (nextOf t q b) path begins is in
-        let u = ahead-most all N (suc k) q b m in
+        let u = ahead-most all N w (suc k) q b m in
         worst .smallest b m (le-antisymm u (omega (arith, from .sum, worst .is)))
 
     goes-on : {rest : List ℕ} → From k (nextOf t q a) rest → From (suc k) q (q ∷ a ∷ rest)
@@ -98,29 +98,29 @@ module _ {t : Table} {P A : ℕ} (all : AllExist t P A) (N : ℕ) where
           begins = (a ∷ rest, refl);
           by-turns = (worst .passes, from .begins, from .by-turns);
           is-path = (path-on on follows states (from .is-path .0), omega (arith, from .is-path .1));
-          sum = rw (on-path all N (suc k) q on, from .sum, worst .is);
+          sum = rw (on-path all N w (suc k) q on, from .sum, worst .is);
           inputs = rw fewer (keeps from, from .inputs);
           bytes = omega (arith, from .bytes);
         }
 
-  path-from : (k q : ℕ) → OnPath P N q → From k q (pathFrom t P A N k q)
+  path-from : (k q : ℕ) → OnPath P N q → From k q (pathFrom t P A N w k q)
   unfolding pathFrom
-  path-from zero q on = stops zero q on (none-ahead all N q (exists all N on))
-  path-from (suc k) q on = go (mostAhead t P A N (sumsOf t P A N (suc k)) q =? 0) refl (path-from k)
+  path-from zero q on = stops zero q on (none-ahead all N w q (exists all N on))
+  path-from (suc k) q on = go (mostAhead t P A N (sumsOf t P A N w (suc k)) q =? 0) refl (path-from k)
     where
-      go : (b : Bool) → (mostAhead t P A N (sumsOf t P A N (suc k)) q =? 0) ≡ b → ((p : ℕ) → OnPath P N p → From k p (pathFrom t P A N k p)) →
+      go : (b : Bool) → (mostAhead t P A N (sumsOf t P A N w (suc k)) q =? 0) ≡ b → ((p : ℕ) → OnPath P N p → From k p (pathFrom t P A N w k p)) →
           From (suc k) q
           (if b then q ∷ []
-          else q ∷ worstInput t P A N (sumsOf t P A N (suc k)) q ∷ pathFrom t P A N k (nextOf t q (worstInput t P A N (sumsOf t P A N (suc k)) q)))
+          else q ∷ worstInput t P A N (sumsOf t P A N w (suc k)) q ∷ pathFrom t P A N w k (nextOf t q (worstInput t P A N (sumsOf t P A N w (suc k)) q)))
       go true e r = stops (suc k) q on (eqb-true _ 0 e)
       go false e r =
-          let a = worstInput t P A N (sumsOf t P A N (suc k)) q in
-          let some = eqb-false (mostAhead t P A N (sumsOf t P A N (suc k)) q) 0 e in
-          let worst = worst-found (t .inputs) (member A) (ahead t P A N (sumsOf t P A N (suc k)) q) (omega arith) in
-          let p-on = has-sum all N (suc k) (nextOf t q a) (next-exists all N q a (exists all N on) (worst .passes)) (omega (arith, worst .is)) in
+          let a = worstInput t P A N (sumsOf t P A N w (suc k)) q in
+          let some = eqb-false (mostAhead t P A N (sumsOf t P A N w (suc k)) q) 0 e in
+          let worst = worst-found (t .inputs) (member A) (ahead t P A N (sumsOf t P A N w (suc k)) q) (omega arith) in
+          let p-on = has-sum all N w (suc k) (nextOf t q a) (next-exists all N q a (exists all N on) (worst .passes)) (omega (arith, worst .is)) in
           goes-on k q on a worst (r (nextOf t q a) p-on)
 
-  sums-largest : (k q : ℕ) → q < t .states → LargestFrom t P A N k q (getD (sumsOf t P A N k) q 0)
+  sums-largest : (k q : ℕ) → q < t .states → LargestFrom t P A N w k q (getD (sumsOf t P A N w k) q 0)
   sums-largest k q l = record {
     none-larger = bounded k q;
     some = some k;
@@ -128,42 +128,42 @@ module _ {t : Table} {P A : ℕ} (all : AllExist t P A) (N : ℕ) where
   }
     where
       some : (k : ℕ) → 0 < k → OnPath P N q →
-          (path : List ℕ) × Begins path q × PathOf t P A N k path × (sumOf t A path ≡ getD (sumsOf t P A N k) q 0)
+          (path : List ℕ) × Begins path q × PathOf t P A N k path × (sumOf w path ≡ getD (sumsOf t P A N w k) q 0)
       some zero h on = absurd (let z : ⊥ = omega arith in z)
       some (suc k) h on =
           let from = path-from k q on in
-          (statesIn (pathFrom t P A N k q), begins-states (from .begins), from .is-path, from .sum)
+          (statesIn (pathFrom t P A N w k q), begins-states (from .begins), from .is-path, from .sum)
 
-      go : (OnPath P N q → ⊥) → (b : Bool) → offTarget P N q ≡ b → getD (sumsOf t P A N k) q 0 ≡ 0
+      go : (OnPath P N q → ⊥) → (b : Bool) → offTarget P N q ≡ b → getD (sumsOf t P A N w k) q 0 ≡ 0
       go off true e = absurd (off (passed all N q e))
-      go off false e = off-path all N k q l e
+      go off false e = off-path all N w k q l e
 
   -- ---- Of all paths
 
-  pub at-most : (n q : ℕ) → OnPath P N q → getD (sumsOf t P A N n) q 0 ≤ largestSum t P A N n
+  pub at-most : (n q : ℕ) → OnPath P N q → getD (sumsOf t P A N w n) q 0 ≤ largestSum t P A N w n
   unfolding largestSum
-  at-most n q on = largest-covers (t .states) (offTarget P N) (λ q. getD (sumsOf t P A N n) q 0) q (exists all N on) (tested all N on)
+  at-most n q on = largest-covers (t .states) (offTarget P N) (λ q. getD (sumsOf t P A N w n) q 0) q (exists all N on) (tested all N on)
 
-  covered : (n : ℕ) (path : List ℕ) → PathOf t P A N n path → sumOf t A path ≤ largestSum t P A N n
+  covered : (n : ℕ) (path : List ℕ) → PathOf t P A N n path → sumOf w path ≤ largestSum t P A N w n
   unfolding sumOf
   covered n [] is = omega arith
   covered n (q ∷ rest) is =
       let begins : Begins (q ∷ rest) q = (rest, refl) in
       omega (arith, bounded n q (q ∷ rest) begins is, at-most n q (first-on begins (is .0)))
 
-  only-empty : (path : List ℕ) → sumOf t A path ≡ 0 → path ≡ []
+  pub only-empty : (path : List ℕ) → sumOf w path ≡ 0 → path ≡ []
   unfolding sumOf
   only-empty [] e = refl
-  only-empty (q ∷ rest) e = absurd (let z : ⊥ = omega (arith, weight-positive all q) in z)
+  only-empty (q ∷ rest) e = absurd (let z : ⊥ = omega (arith, positive q) in z)
 
-  has-largest : (n : ℕ) (row : List ℕ) → sumOf t A (statesIn row) ≡ largestSum t P A N n → PathOf t P A N n (statesIn row) →
-      Largest t P A N n (sumOf t A (statesIn row))
+  has-largest : (n : ℕ) (row : List ℕ) → sumOf w (statesIn row) ≡ largestSum t P A N w n → PathOf t P A N n (statesIn row) →
+      Largest t P A N w n (sumOf w (statesIn row))
   has-largest n row sum is = record { none-larger = λ path p. rw sum (covered n path p); some = (statesIn row, is, refl) }
 
   abbrev Written : ℕ → List ℕ → Type 0
-  Written n row = Worst t P A N n row × (sumOf t A (statesIn row) ≡ largestSum t P A N n)
+  Written n row = Worst t P A N w n row × (sumOf w (statesIn row) ≡ largestSum t P A N w n)
 
-  nothing : (n : ℕ) → largestSum t P A N n ≡ 0 → Written n []
+  nothing : (n : ℕ) → largestSum t P A N w n ≡ 0 → Written n []
   unfolding sumOf
   nothing n none = (
     record {
@@ -180,14 +180,14 @@ module _ {t : Table} {P A : ℕ} (all : AllExist t P A) (N : ℕ) where
     sym none,
   )
 
-  module _ (k q : ℕ) (worst : IsWorst (t .states) (offTarget P N) (λ q. getD (sumsOf t P A N (suc k)) q 0) q)
-      (some : 0 < largestSum t P A N (suc k)) {row : List ℕ} (from : From k q row) where
-    whole : sumOf t A (statesIn row) ≡ largestSum t P A N (suc k)
+  module _ (k q : ℕ) (worst : IsWorst (t .states) (offTarget P N) (λ q. getD (sumsOf t P A N w (suc k)) q 0) q)
+      (some : 0 < largestSum t P A N w (suc k)) {row : List ℕ} (from : From k q row) where
+    whole : sumOf w (statesIn row) ≡ largestSum t P A N w (suc k)
     unfolding largestSum
     whole = from .sum ∙ worst .is
 
     first : (q′ p : ℕ) (path : List ℕ) → Begins row q′ → Begins path p → PathOf t P A N (suc k) path →
-        sumOf t A path ≡ sumOf t A (statesIn row) → q′ ≤ p
+        sumOf w path ≡ sumOf w (statesIn row) → q′ ≤ p
     unfolding largestSum
     first q′ p path begins path-begins is same =
         let e : q′ ≡ q = cc (begins .1, from .begins .1) in
@@ -215,26 +215,26 @@ module _ {t : Table} {P A : ℕ} (all : AllExist t P A) (N : ℕ) where
       whole,
     )
 
-  from-worst : (n : ℕ) → 0 < largestSum t P A N n → Written n (pathFrom t P A N (n - 1) (worstStart t P A N n))
+  from-worst : (n : ℕ) → 0 < largestSum t P A N w n → Written n (pathFrom t P A N w (n - 1) (worstStart t P A N w n))
   unfolding largestSum worstStart
   from-worst zero some =
-      let worst = worst-found (t .states) (offTarget P N) (λ q. getD (sumsOf t P A N 0) q 0) some in
-      absurd (let z : ⊥ = omega (arith, worst .is, before all N _ (worst .below)) in z)
+      let worst = worst-found (t .states) (offTarget P N) (λ q. getD (sumsOf t P A N w 0) q 0) some in
+      absurd (let z : ⊥ = omega (arith, worst .is, before all N w _ (worst .below)) in z)
   from-worst (suc k) some =
-      let worst = worst-found (t .states) (offTarget P N) (λ q. getD (sumsOf t P A N (suc k)) q 0) some in
+      let worst = worst-found (t .states) (offTarget P N) (λ q. getD (sumsOf t P A N w (suc k)) q 0) some in
       let follow : suc k - 1 ≡ k = omega arith in
       rw follow (something k _ worst some (path-from k _ (passed all N _ (worst .passes))))
 
-  is-written : (n : ℕ) → Written n (worstPath t P A N n)
+  is-written : (n : ℕ) → Written n (worstPath t P A N w n)
   unfolding worstPath
-  is-written n = go (largestSum t P A N n =? 0) refl
+  is-written n = go (largestSum t P A N w n =? 0) refl
     where
-      go : (b : Bool) → (largestSum t P A N n =? 0) ≡ b → Written n (if b then [] else pathFrom t P A N (n - 1) (worstStart t P A N n))
+      go : (b : Bool) → (largestSum t P A N w n =? 0) ≡ b → Written n (if b then [] else pathFrom t P A N w (n - 1) (worstStart t P A N w n))
       go true e = nothing n (eqb-true _ 0 e)
-      go false e = from-worst n (let m = eqb-false (largestSum t P A N n) 0 e in omega arith)
+      go false e = from-worst n (let m = eqb-false (largestSum t P A N w n) 0 e in omega arith)
 
-  largest-of-all : (n : ℕ) → Largest t P A N n (largestSum t P A N n)
-  largest-of-all n = let w = is-written n in rw (w .1) at (w .0 .largest)
+  largest-of-all : (n : ℕ) → Largest t P A N w n (largestSum t P A N w n)
+  largest-of-all n = let written = is-written n in rw (written .1) at (written .0 .largest)
 
 -- ---- The theorems
 
@@ -242,10 +242,10 @@ abbrev known : {t : Table} {P A : ℕ} → WellFormed t → Known (t .states) P 
 known table states inputs = record { table = table; states = states; inputs = inputs }
 
 pub sums-are-largest : SumsAreLargest
-sums-are-largest t table P A N states inputs = sums-largest (known table states inputs) N
+sums-are-largest t table P A N w positive states inputs = sums-largest (known table states inputs) N w positive
 
 pub largest-is-of-all : LargestOfAll
-largest-is-of-all t table P A N states inputs = largest-of-all (known table states inputs) N
+largest-is-of-all t table P A N w positive states inputs = largest-of-all (known table states inputs) N w positive
 
 pub written-is-worst : WrittenIsWorst
-written-is-worst t table P A N states inputs = is-written (known table states inputs) N
+written-is-worst t table P A N w positive states inputs = is-written (known table states inputs) N w positive

@@ -40,41 +40,42 @@ module _ {t : Table} {P A : ℕ} (all : AllExist t P A) (N : ℕ) where
   pub passed : (q : ℕ) → offTarget P N q ≡ true → OnPath P N q
   passed q e = let b = both (member P q) _ e in record { is-in = b .0; outside = not-true (member N q) (b .1) }
 
-  -- What a round has for q.
-  abbrev at : ℕ → ℕ → ℕ
-  at k q = getD (sumsOf t P A N k) q 0
+  module _ (w : ℕ → ℕ) where
+    -- What a round has for q.
+    abbrev at : ℕ → ℕ → ℕ
+    at k q = getD (sumsOf t P A N w k) q 0
 
-  pub before : (q : ℕ) → q < t .states → at 0 q ≡ 0
-  unfolding sumsOf
-  before q l = getD-replicate (t .states) q 0 0 l
+    pub before : (q : ℕ) → q < t .states → at 0 q ≡ 0
+    unfolding sumsOf
+    before q l = getD-replicate (t .states) q 0 0 l
 
-  later : (k q : ℕ) → q < t .states → at (suc k) q ≡ (if offTarget P N q then weight t A q + mostAhead t P A N (sumsOf t P A N k) q else 0)
-  unfolding sumsOf round
-  later k q l = getD-values _ (t .states) q l
+    later : (k q : ℕ) → q < t .states → at (suc k) q ≡ (if offTarget P N q then w q + mostAhead t P A N (sumsOf t P A N w k) q else 0)
+    unfolding sumsOf round
+    later k q l = getD-values _ (t .states) q l
 
-  pub on-path : (k q : ℕ) → OnPath P N q → at (suc k) q ≡ weight t A q + mostAhead t P A N (sumsOf t P A N k) q
-  on-path k q on = rw (tested on) at (later k q (exists on))
+    pub on-path : (k q : ℕ) → OnPath P N q → at (suc k) q ≡ w q + mostAhead t P A N (sumsOf t P A N w k) q
+    on-path k q on = rw (tested on) at (later k q (exists on))
 
-  pub off-path : (k q : ℕ) → q < t .states → offTarget P N q ≡ false → at k q ≡ 0
-  off-path zero q l off = before q l
-  off-path (suc k) q l off = rw off at (later k q l)
+    pub off-path : (k q : ℕ) → q < t .states → offTarget P N q ≡ false → at k q ≡ 0
+    off-path zero q l off = before q l
+    off-path (suc k) q l off = rw off at (later k q l)
 
-  -- A sum above 0 is that of a state on a path.
-  pub has-sum : (k q : ℕ) → q < t .states → 0 < at k q → OnPath P N q
-  has-sum k q l some = go (offTarget P N q) refl
-    where
-      go : (b : Bool) → offTarget P N q ≡ b → OnPath P N q
-      go true e = passed q e
-      go false e = absurd (let z : ⊥ = omega (arith, off-path k q l e) in z)
+    -- A sum above 0 is that of a state on a path.
+    pub has-sum : (k q : ℕ) → q < t .states → 0 < at k q → OnPath P N q
+    has-sum k q l some = go (offTarget P N q) refl
+      where
+        go : (b : Bool) → offTarget P N q ≡ b → OnPath P N q
+        go true e = passed q e
+        go false e = absurd (let z : ⊥ = omega (arith, off-path k q l e) in z)
 
-  -- ---- The sums ahead of a state
+    -- ---- The sums ahead of a state
 
-  pub ahead-most : (k q a : ℕ) → member A a ≡ true → at k (nextOf t q a) ≤ mostAhead t P A N (sumsOf t P A N k) q
-  ahead-most k q a m = largest-covers (t .inputs) (member A) (ahead t P A N (sumsOf t P A N k) q) a (all .inputs a m) m
+    pub ahead-most : (k q a : ℕ) → member A a ≡ true → at k (nextOf t q a) ≤ mostAhead t P A N (sumsOf t P A N w k) q
+    ahead-most k q a m = largest-covers (t .inputs) (member A) (ahead t P A N (sumsOf t P A N w k) q) a (all .inputs a m) m
 
-  pub none-ahead : (q : ℕ) → q < t .states → mostAhead t P A N (sumsOf t P A N 0) q ≡ 0
-  none-ahead q l = go (largest-reached (t .inputs) (member A) (ahead t P A N (sumsOf t P A N 0) q))
-    where
-      go : {m : ℕ} → (m ≡ 0) ⊎ Reaching (t .inputs) (member A) (ahead t P A N (sumsOf t P A N 0) q) m → m ≡ 0
-      go (inl z) = z
-      go (inr r) = r .is ∙ before (nextOf t q (r .at)) (next-exists q (r .at) l (r .passes))
+    pub none-ahead : (q : ℕ) → q < t .states → mostAhead t P A N (sumsOf t P A N w 0) q ≡ 0
+    none-ahead q l = go (largest-reached (t .inputs) (member A) (ahead t P A N (sumsOf t P A N w 0) q))
+      where
+        go : {m : ℕ} → (m ≡ 0) ⊎ Reaching (t .inputs) (member A) (ahead t P A N (sumsOf t P A N w 0) q) m → m ≡ 0
+        go (inl z) = z
+        go (inr r) = r .is ∙ before (nextOf t q (r .at)) (next-exists q (r .at) l (r .passes))

@@ -9,3 +9,4 @@ pub mod Salvages
 pub mod Reports
 pub mod Paths
 pub mod Moves
+pub mod Tight

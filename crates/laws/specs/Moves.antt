@@ -12,7 +12,7 @@ use Rattle.table.specs.Table.{nextOf, WellFormed}
 use Rattle.table.specs.declared.Answer.the-variants.{Passes}
 use Rattle.table.specs.Check.{tableAnswer, tableIn}
 use Rattle.reaction.specs.Answer as reaction
-use Rattle.reaction.specs.Reaction.{reactOf}
+use Rattle.reaction.specs.Reaction.{weight, reactOf}
 use Rattle.reaction.specs.Meaning.{Known, Pairs}
 use Rattle.moves.specs.declared.Reaction.{Reaction}
 use Rattle.moves.specs.declared.Answer.the-variants.{Reacts}
@@ -35,10 +35,10 @@ pub record Told (t : Table) (P A n : ℕ) (r : Reaction) (sums path : List ℕ) 
   pub inside : (p a : ℕ) → Pairs P A p a → member P (nextOf t p a) ≡ true
   pub target : (q : ℕ) → (member (r .target) q ≡ true) ↔ ComesBy t P A n q
   pub no-longer : (path : List ℕ) → Path t P A (r .target) path → length path ≤ n
-  pub time : (sum : ℕ) × Largest t P A (r .target) n sum × (r .time ≡ t .bound + sum)
-  pub each-sum : (row q : ℕ) → row < n → q < t .states → LargestFrom t P A (r .target) (row + 1) q (getD sums (row * t .states + q) 0)
-  pub worst : Worst t P A (r .target) n (take (r .length) path)
-  pub path-sum : r .time ≡ t .bound + sumOf t A (statesIn (take (r .length) path))
+  pub time : (sum : ℕ) × Largest t P A (r .target) (weight t A) n sum × (r .time ≡ t .bound + sum)
+  pub each-sum : (row q : ℕ) → row < n → q < t .states → LargestFrom t P A (r .target) (weight t A) (row + 1) q (getD sums (row * t .states + q) 0)
+  pub worst : Worst t P A (r .target) (weight t A) n (take (r .length) path)
+  pub path-sum : r .time ≡ t .bound + sumOf (weight t A) (statesIn (take (r .length) path))
 
 abbrev pub MovesTold : Type 0
 MovesTold =

@@ -126,7 +126,7 @@ module _ {t : Table} {P A : ℕ} (all : AllExist t P A) {images : List ℕ} (of 
           omega (arith, weight-at-most (holdOf t q) (t .bound) (delayed q), hold, all .table .bound)
       go false e = omega arith
 
-  rounds-agree : (row : List ℕ) → roundStored images (t .states) weigh row ≡ round t P A N row
+  rounds-agree : (row : List ℕ) → roundStored images (t .states) weigh row ≡ round t P A N (weight t A) row
   unfolding roundStored round
   rounds-agree row = same-values (t .states) (λ q h. rw (weighed q) (go q (offTarget P N q) refl (some-weight q)))
     where
@@ -138,40 +138,40 @@ module _ {t : Table} {P A : ℕ} (all : AllExist t P A) {images : List ℕ} (of 
           (ap (λ m. weight t A q + m) (same-most all of (λ p. getD row p 0) q (both (member P q) _ e .0)))
       go q false e l = refl
 
-  pub rows-agree : (k : ℕ) → rowStored images (t .states) weigh k ≡ sumsOf t P A N k
+  pub rows-agree : (k : ℕ) → rowStored images (t .states) weigh k ≡ sumsOf t P A N (weight t A) k
   unfolding rowStored sumsOf
   rows-agree zero = refl
-  rows-agree (suc k) = rounds-agree (rowStored images (t .states) weigh k) ∙ ap (round t P A N) (rows-agree k)
+  rows-agree (suc k) = rounds-agree (rowStored images (t .states) weigh k) ∙ ap (round t P A N (weight t A)) (rows-agree k)
 
-  place-agrees : (r q : ℕ) → q < t .states → sumStored images (t .states) weigh (r * t .states + q) ≡ getD (sumsOf t P A N (suc r)) q 0
+  place-agrees : (r q : ℕ) → q < t .states → sumStored images (t .states) weigh (r * t .states + q) ≡ getD (sumsOf t P A N (weight t A) (suc r)) q 0
   place-agrees r q low = rw (digits-div r low, digits-mod r low, add-one r, rows-agree (suc r))
 
   -- A row is the list of its numbers.
-  row-listed : (n : ℕ) → sumsOf t P A N (suc n) ≡ values (λ q. getD (sumsOf t P A N (suc n)) q 0) (t .states)
+  row-listed : (n : ℕ) → sumsOf t P A N (weight t A) (suc n) ≡ values (λ q. getD (sumsOf t P A N (weight t A) (suc n)) q 0) (t .states)
   unfolding sumsOf round
   row-listed n =
       same-values (t .states)
-      (λ q low. sym (getD-values (λ q. if offTarget P N q then weight t A q + largest (t .inputs) (member A) (λ a. getD (sumsOf t P A N n) (nextOf t q a) 0) else 0) (t .states) q low))
+      (λ q low. sym (getD-values (λ q. if offTarget P N q then weight t A q + largest (t .inputs) (member A) (λ a. getD (sumsOf t P A N (weight t A) n) (nextOf t q a) 0) else 0) (t .states) q low))
 
-  pub all-rows : (n : ℕ) → values (sumStored images (t .states) weigh) (n * t .states) ≡ rows t P A N n
+  pub all-rows : (n : ℕ) → values (sumStored images (t .states) weigh) (n * t .states) ≡ rows t P A N (weight t A) n
   unfolding rows
   all-rows zero = no-values (sumStored images (t .states) weigh) (zero-mul (t .states))
   all-rows (suc n) =
-      let row : values (λ q. sumStored images (t .states) weigh (n * t .states + q)) (t .states) ≡ sumsOf t P A N (suc n) =
+      let row : values (λ q. sumStored images (t .states) weigh (n * t .states + q)) (t .states) ≡ sumsOf t P A N (weight t A) (suc n) =
       same-values (t .states) (place-agrees n) ∙ sym (row-listed n)
       in
       ap (values (sumStored images (t .states) weigh)) (suc-mul n (t .states))
       ∙ more-values (sumStored images (t .states) weigh) (n * t .states) (t .states)
       ∙ rw (all-rows n, row)
 
-  sums-light : (k q : ℕ) → q < t .states → getD (sumsOf t P A N k) q 0 ≤ k * heaviest
+  sums-light : (k q : ℕ) → q < t .states → getD (sumsOf t P A N (weight t A) k) q 0 ≤ k * heaviest
   sums-light k q low = rw (← rows-agree k) (row-at-most (among all of) weigh light k q low)
 
-  pub largest-light : (n : ℕ) → n ≤ 32 → largestSum t P A N n ≤ 32 * heaviest
+  pub largest-light : (n : ℕ) → n ≤ 32 → largestSum t P A N (weight t A) n ≤ 32 * heaviest
   unfolding largestSum
   largest-light n few =
       let m : n * heaviest ≤ 32 * heaviest = mul-le-mul-right heaviest few in
-      let l = largest-at-most (t .states) (offTarget P N) (λ q. getD (sumsOf t P A N n) q 0) (n * heaviest)
+      let l = largest-at-most (t .states) (offTarget P N) (λ q. getD (sumsOf t P A N (weight t A) n) q 0) (n * heaviest)
       (λ q on. sums-light n q (all .states q (both (member P q) _ on .0))) in
       omega arith
 
@@ -182,21 +182,21 @@ module _ {t : Table} {P A : ℕ} (all : AllExist t P A) (N n : ℕ) (after : Lis
   way start = record { start = start; width = t .inputs; inputs = A; states = t .states }
 
   -- The slice has the rows in front.
-  module _ (behind : List ℕ) (holds : after ≡ rows t P A N n ++ behind) where
-    place-has : (r q : ℕ) → r < n → q < t .states → getD after (r * t .states + q) 0 ≡ getD (sumsOf t P A N (r + 1)) q 0
+  module _ (behind : List ℕ) (holds : after ≡ rows t P A N (weight t A) n ++ behind) where
+    place-has : (r q : ℕ) → r < n → q < t .states → getD after (r * t .states + q) 0 ≡ getD (sumsOf t P A N (weight t A) (r + 1)) q 0
     place-has r q row low =
         ap (λ l. getD l (r * t .states + q) 0) holds
-        ∙ List·getD-append (rows t P A N n) behind 0 (r * t .states + q) (rw (length-rows t P A N n) (digits-lt row low))
-        ∙ row-at t P A N n r q row low
+        ∙ List·getD-append (rows t P A N (weight t A) n) behind 0 (r * t .states + q) (rw (length-rows t P A N (weight t A) n) (digits-lt row low))
+        ∙ row-at t P A N (weight t A) n r q row low
 
-    path-agrees : (start left q : ℕ) → left < n → q < t .states → pathAlong (nextOf t) (way start) after left q ≡ pathFrom t P A N left q
+    path-agrees : (start left q : ℕ) → left < n → q < t .states → pathAlong (nextOf t) (way start) after left q ≡ pathFrom t P A N (weight t A) left q
     unfolding pathAlong pathFrom
     path-agrees start zero q few low = refl
     path-agrees start (suc k) q few low =
         rw (agree .0, agree .1) (go (largest (t .inputs) (member A) ahead =? 0) refl (path-agrees start k))
       where
         ahead : ℕ → ℕ
-        ahead a = getD (sumsOf t P A N (suc k)) (nextOf t q a) 0
+        ahead a = getD (sumsOf t P A N (weight t A) (suc k)) (nextOf t q a) 0
 
         agree : (largest (t .inputs) (member A) (aheadStored (nextOf t) (way start) after (k * t .states) q) ≡ largest (t .inputs) (member A) ahead) ×
             (worst (t .inputs) (member A) (aheadStored (nextOf t) (way start) after (k * t .states) q) ≡ worst (t .inputs) (member A) ahead)
@@ -208,9 +208,9 @@ module _ {t : Table} {P A : ℕ} (all : AllExist t P A) (N n : ℕ) (after : Lis
         input = worst (t .inputs) (member A) ahead
 
         go : (b : Bool) → (largest (t .inputs) (member A) ahead =? 0) ≡ b →
-            ((p : ℕ) → k < n → p < t .states → pathAlong (nextOf t) (way start) after k p ≡ pathFrom t P A N k p) →
+            ((p : ℕ) → k < n → p < t .states → pathAlong (nextOf t) (way start) after k p ≡ pathFrom t P A N (weight t A) k p) →
             (if b then q ∷ [] else q ∷ input ∷ pathAlong (nextOf t) (way start) after k (nextOf t q input)) ≡
-            (if b then q ∷ [] else q ∷ input ∷ pathFrom t P A N k (nextOf t q input))
+            (if b then q ∷ [] else q ∷ input ∷ pathFrom t P A N (weight t A) k (nextOf t q input))
         go true e more = refl
         go false e more =
             let other = eqb-false (largest (t .inputs) (member A) ahead) 0 e in
@@ -223,17 +223,17 @@ module _ {t : Table} {P A : ℕ} (all : AllExist t P A) (N n : ℕ) (after : Lis
       in-states : (q : ℕ) → member outside q ≡ true → q < t .states
       in-states q m = all .states q (both (member P q) _ (sym (rest q) ∙ m) .0)
 
-      last-row : (q : ℕ) → offTarget P N q ≡ true → getD after ((n - 1) * t .states + q) 0 ≡ getD (sumsOf t P A N n) q 0
+      last-row : (q : ℕ) → offTarget P N q ≡ true → getD after ((n - 1) * t .states + q) 0 ≡ getD (sumsOf t P A N (weight t A) n) q 0
       last-row q on =
           let e : n - 1 + 1 ≡ n = omega arith in
           rw e at (place-has (n - 1) q (omega arith) (in-states q (rest q ∙ on)))
 
-      agree : (largest (t .states) (member outside) (λ q. getD after ((n - 1) * t .states + q) 0) ≡ largestSum t P A N n) ×
-          (worst (t .states) (member outside) (λ q. getD after ((n - 1) * t .states + q) 0) ≡ worstStart t P A N n)
+      agree : (largest (t .states) (member outside) (λ q. getD after ((n - 1) * t .states + q) 0) ≡ largestSum t P A N (weight t A) n) ×
+          (worst (t .states) (member outside) (λ q. getD after ((n - 1) * t .states + q) 0) ≡ worstStart t P A N (weight t A) n)
       unfolding largestSum worstStart
       agree = same-worst rest last-row (t .states)
 
-      pub sum-is : sum ≡ largestSum t P A N n
+      pub sum-is : sum ≡ largestSum t P A N (weight t A) n
       sum-is = is-largest in-states found ∙ agree .0
 
       pub begins : (sum ≡ 0) ⊎ (at < t .states)
@@ -244,24 +244,24 @@ module _ {t : Table} {P A : ℕ} (all : AllExist t P A) (N n : ℕ) (after : Lis
           go false e = inr (in-states at (worst-in found (eqb-false sum 0 e)))
 
       pub whole-is : (along : Way) → along .width ≡ t .inputs → along .inputs ≡ A → along .states ≡ t .states →
-          wholePathAlong (nextOf t) along after (n - 1) sum at ≡ worstPath t P A N n
+          wholePathAlong (nextOf t) along after (n - 1) sum at ≡ worstPath t P A N (weight t A) n
       unfolding wholePathAlong worstPath
       whole-is along width inputs states = rw (← sum-is) (go (sum =? 0) refl)
         where
           path : (q : ℕ) → pathAlong (nextOf t) along after (n - 1) q ≡ pathAlong (nextOf t) (way (along .start)) after (n - 1) q
           path q = rw (← width, ← inputs, ← states) refl
 
-          go : (b : Bool) → (sum =? 0) ≡ b → (if b then [] else pathAlong (nextOf t) along after (n - 1) at) ≡ (if b then [] else pathFrom t P A N (n - 1) (worstStart t P A N n))
+          go : (b : Bool) → (sum =? 0) ≡ b → (if b then [] else pathAlong (nextOf t) along after (n - 1) at) ≡ (if b then [] else pathFrom t P A N (weight t A) (n - 1) (worstStart t P A N (weight t A) n))
           go true e = refl
           go false e =
               let other = eqb-false sum 0 e in
               path at
               ∙ path-agrees (along .start) (n - 1) at (omega arith) (in-states at (worst-in found other))
-              ∙ ap (pathFrom t P A N (n - 1)) (is-worst in-states found (omega arith) ∙ agree .1)
+              ∙ ap (pathFrom t P A N (weight t A) (n - 1)) (is-worst in-states found (omega arith) ∙ agree .1)
 
 -- ---- The answer, and what is written
 
-nothing : (t : Table) (P A N : ℕ) → largestSum t P A N 0 ≡ 0
+nothing : (t : Table) (P A N : ℕ) → largestSum t P A N (weight t A) 0 ≡ 0
 unfolding largestSum sumsOf
 nothing t P A N = le-zero (largest-at-most (t .states) (offTarget P N) _ 0 (λ q on. rw (getD-zeros (t .states) q) (omega arith)))
 
@@ -271,19 +271,19 @@ module _ (t : Table) (P A n : ℕ) where
   unfolding reactionOver sumsOver pathOver nextTimes rows worstPath
   no-moves e sums path = rw (e, none, zero-mul (t .states)) (ap (λ time. record { time = time; target = P; length = 0 }) (sym (add-zero (t .bound))), refl, refl)
     where
-      none : largestSum t P A P 0 ≡ 0
+      none : largestSum t P A P (weight t A) 0 ≡ 0
       none = nothing t P A P
 
   module _ (N : ℕ) (target : N ≡ nextTimes t P A n) where
-    pub reaction-is : {sum size : ℕ} → sum ≡ largestSum t P A N n → size ≡ length (worstPath t P A N n) →
+    pub reaction-is : {sum size : ℕ} → sum ≡ largestSum t P A N (weight t A) n → size ≡ length (worstPath t P A N (weight t A) n) →
         record { time = t .bound + sum; target = N; length = size } ≡ reactionOver t P A n
     unfolding reactionOver
     reaction-is e f = rw (e, f, target)
 
-    pub sums-are : (before : List ℕ) {after : List ℕ} → after ≡ rows t P A N n ++ drop (n * t .states) before → after ≡ sumsOver t P A n before
+    pub sums-are : (before : List ℕ) {after : List ℕ} → after ≡ rows t P A N (weight t A) n ++ drop (n * t .states) before → after ≡ sumsOver t P A n before
     unfolding sumsOver
     sums-are before e = e ∙ rw target
 
-    pub path-is : (before : List ℕ) {after written : List ℕ} → written ≡ worstPath t P A N n → after ≡ placedIn before 0 written → after ≡ pathOver t P A n before
+    pub path-is : (before : List ℕ) {after written : List ℕ} → written ≡ worstPath t P A N (weight t A) n → after ≡ placedIn before 0 written → after ≡ pathOver t P A n before
     unfolding pathOver
     path-is before {after} {written} e f = f ∙ rw (zero-add (length written), e, target)

@@ -42,39 +42,41 @@ module _ (t : Table) (P A N : ℕ) where
   abbrev pub worstInput : List ℕ → ℕ → ℕ
   worstInput row q = worst (t .inputs) (member A) (ahead row q)
 
-  -- A row from the one before: paths that begin with one state more.
-  unfoldable pub round : List ℕ → List ℕ
-  round row = values (λ q. if offTarget P N q then weight t A q + mostAhead row q else 0) (t .states)
+  -- Each state has a weight w: that for one move here, and a smaller one in tight times.
+  module _ (w : ℕ → ℕ) where
+    -- A row from the one before: paths that begin with one state more.
+    unfoldable pub round : List ℕ → List ℕ
+    round row = values (λ q. if offTarget P N q then w q + mostAhead row q else 0) (t .states)
 
-  -- For each state the largest sum of a path of at most so many states that begins there.
-  unfoldable pub sumsOf : ℕ → List ℕ
-  sumsOf zero = zeros (t .states)
-  sumsOf (suc k) = round (sumsOf k)
+    -- For each state the largest sum of a path of at most so many states that begins there.
+    unfoldable pub sumsOf : ℕ → List ℕ
+    sumsOf zero = zeros (t .states)
+    sumsOf (suc k) = round (sumsOf k)
 
-  -- The rows for paths of at most 1, 2, .., n states, one after another.
-  unfoldable pub rows : ℕ → List ℕ
-  rows zero = []
-  rows (suc n) = rows n ++ sumsOf (suc n)
+    -- The rows for paths of at most 1, 2, .., n states, one after another.
+    unfoldable pub rows : ℕ → List ℕ
+    rows zero = []
+    rows (suc n) = rows n ++ sumsOf (suc n)
 
-  -- ---- The worst path
+    -- ---- The worst path
 
-  -- From q on, with at most so many states to follow. Where none can, the sums ahead are 0.
-  unfoldable pub pathFrom : (follow q : ℕ) → List ℕ
-  pathFrom zero q = q ∷ []
-  pathFrom (suc k) q =
-      if mostAhead (sumsOf (suc k)) q =? 0 then q ∷ []
-      else q ∷ worstInput (sumsOf (suc k)) q ∷ pathFrom k (nextOf t q (worstInput (sumsOf (suc k)) q))
+    -- From q on, with at most so many states to follow. Where none can, the sums ahead are 0.
+    unfoldable pub pathFrom : (follow q : ℕ) → List ℕ
+    pathFrom zero q = q ∷ []
+    pathFrom (suc k) q =
+        if mostAhead (sumsOf (suc k)) q =? 0 then q ∷ []
+        else q ∷ worstInput (sumsOf (suc k)) q ∷ pathFrom k (nextOf t q (worstInput (sumsOf (suc k)) q))
 
-  -- The largest sum of all, and the smallest state at which a path with it begins.
-  unfoldable pub largestSum : ℕ → ℕ
-  largestSum n = largest (t .states) (offTarget P N) (λ q. getD (sumsOf n) q 0)
+    -- The largest sum of all, and the smallest state at which a path with it begins.
+    unfoldable pub largestSum : ℕ → ℕ
+    largestSum n = largest (t .states) (offTarget P N) (λ q. getD (sumsOf n) q 0)
 
-  unfoldable pub worstStart : ℕ → ℕ
-  worstStart n = worst (t .states) (offTarget P N) (λ q. getD (sumsOf n) q 0)
+    unfoldable pub worstStart : ℕ → ℕ
+    worstStart n = worst (t .states) (offTarget P N) (λ q. getD (sumsOf n) q 0)
 
-  -- Every weight is above 0: where the largest sum is 0 there is no path.
-  unfoldable pub worstPath : ℕ → List ℕ
-  worstPath n = if largestSum n =? 0 then [] else pathFrom (n - 1) (worstStart n)
+    -- Every weight is above 0: where the largest sum is 0 there is no path.
+    unfoldable pub worstPath : ℕ → List ℕ
+    worstPath n = if largestSum n =? 0 then [] else pathFrom (n - 1) (worstStart n)
 
 -- ---- The entry
 
@@ -97,18 +99,18 @@ unfoldable pub reactionOver : Table → (P A n : ℕ) → Reaction
 reactionOver t P A n =
     let N = nextTimes t P A n in
     record {
-      time = t .bound + largestSum t P A N n;
+      time = t .bound + largestSum t P A N (weight t A) n;
       target = N;
-      length = length (worstPath t P A N n);
+      length = length (worstPath t P A N (weight t A) n);
     }
 
 -- What is written, and past it what stood there.
 unfoldable pub sumsOver : Table → (P A n : ℕ) → List ℕ → List ℕ
-sumsOver t P A n sums = rows t P A (nextTimes t P A n) n ++ drop (n * t .states) sums
+sumsOver t P A n sums = rows t P A (nextTimes t P A n) (weight t A) n ++ drop (n * t .states) sums
 
 unfoldable pub pathOver : Table → (P A n : ℕ) → List ℕ → List ℕ
 pathOver t P A n path =
-    let written = worstPath t P A (nextTimes t P A n) n in
+    let written = worstPath t P A (nextTimes t P A n) (weight t A) n in
     written ++ drop (length written) path
 
 -- The answer and the buffers, by what the judge says.

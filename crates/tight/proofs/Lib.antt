@@ -1,3 +1,4 @@
 pub mod Time
 pub mod Entry
 pub mod Below
+pub mod Several

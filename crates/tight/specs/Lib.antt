@@ -1,3 +1,4 @@
 pub mod Answer
 pub mod Tight
 pub mod Below
+pub mod Several

@@ -10,6 +10,7 @@ use Rattle.wire.proofs.Choice.{both}
 use Rattle.table.specs.declared.Answer.the-variants as table
 use Rattle.table.specs.Check.{tableAnswer, tableIn}
 use Rattle.rows.specs.Layouts.{NextRows, LaidOut}
+use Rattle.reaction.specs.Reaction.{weight}
 use Rattle.reaction.specs.Meaning.{Known}
 use Rattle.reaction.proofs.Meaning.{stays}
 use Rattle.reaction.proofs.Findings.{outside-known}
@@ -83,7 +84,7 @@ filled : (c : tie.After-fill-sums) →
     let targets = c .before .before .before .before .before .before in
     let a = targets .before .before .before .before .before .before .before .before .args in
     let t = tableIn (a .table .now) in
-    c .fill-sums .last .1 .1 .1 .1 .0 ≡ rows t (a .states) (a .inputs) (targets .next-times .result) (a .moves) ++ drop (a .moves * t .states) (a .sums .now)
+    c .fill-sums .last .1 .1 .1 .1 .0 ≡ rows t (a .states) (a .inputs) (targets .next-times .result) (weight t (a .inputs)) (a .moves) ++ drop (a .moves * t .states) (a .sums .now)
 filled c =
     let weighed = c .before .before .before .before in
     let rest = weighed .before in
