@@ -36,10 +36,17 @@ compile() { # FLAGS AND FILES
     "$own" -std=gnu11 -Wall -Wextra -Werror -Ihost -Iinclude "$@"
 }
 
-peers=() # as host/bench compiles them
-for each in host/plain*.c host/tuned*.c; do
+# As host/bench compiles them, but that tuned C may hand over only what is refused.
+peers=("$out/refusing.o")
+mapfile -t refusing < <(entries host/tuned.h | sed 's/.*/-Dplain_&=refusing_&/')
+compile -O1 -c host/refusing.c -o "$out/refusing.o" || exit 1
+for each in host/plain*.c; do
     peers+=("$out/$(basename "$each" .c).o")
     compile -O3 -c "$each" -o "${peers[-1]}" || exit 1
+done
+for each in host/tuned*.c; do
+    peers+=("$out/$(basename "$each" .c).o")
+    compile -O3 "${refusing[@]}" -c "$each" -o "${peers[-1]}" || exit 1
 done
 
 build() { # NAME PEER FLAGS AND FILES: the test with the peer in the library's place

@@ -129,7 +129,8 @@ export function bundleInParts(entry, folder) {
     const part = new Gathered(main.done);
     const value = part.add(file, () => { throw new Error(`${file}: it is loaded later, and loads later itself`); });
     const given = `({ ${['here', ...part.needed].join(', ')} })`;
-    return /** @type {[string, string]} */ ([nameOf(file), `'use strict';\nmodule.exports = ${given} => {\n${ONCE}\n${part.lines.join('\n')}\nreturn ${value}();\n};`]);
+    const script = `'use strict';\nmodule.exports = ${given} => {\n${ONCE}\n${part.lines.join('\n')}\nreturn ${value}();\n};`;
+    return /** @type {[string, string]} */ ([nameOf(file), script]);
   });
   return { start, later };
 }

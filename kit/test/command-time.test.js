@@ -101,7 +101,8 @@ test(`1,000 journals of 64 KB, ${TIMES} times: what the command adds to a bare l
   };
   const good = ({ beside, times }) => beside <= BESIDE && times <= MOST;
   const { start, whole, taken, beside, times, native } = figures(leastTimes(acts, (least) => good(figures(least))));
-  console.log(`# ${1000 * TIMES} journals: ${Math.round(taken)} ms after a start of ${Math.round(start)} ms; for 1,000 ${Math.round(beside)} ms beside a bare loop`
+  console.log(`# ${1000 * TIMES} journals: ${Math.round(taken)} ms after a start of ${Math.round(start)} ms; `
+    + `for 1,000 ${Math.round(beside)} ms beside a bare loop`
     + (loop ? `; in C ${Math.round(native)} ms: ${times.toFixed(2)} times, with the start ${(whole / native).toFixed(2)} times` : ''));
   assert.ok(taken > 0 && good({ beside, times }), `${beside} ms of at most ${BESIDE}, ${times} times of at most ${MOST}`);
 });
