@@ -5,6 +5,7 @@ import { byId, closeMenu } from './dom.js';
 import { redraw, showOther } from './drawing.js';
 import { tooLong } from './limits.js';
 import { listenToLive } from './live-controls.js';
+import { listenToExercises } from './making-controls.js';
 import { openExample, openFiles } from './opening.js';
 import { listSavings } from './saving.js';
 import { move, select, selectTime } from './stepping.js';
@@ -23,6 +24,7 @@ export function listen(page) {
   listenToDrops(page);
   listenToPastes(page);
   listenToLive(page.live);
+  listenToExercises(page);
 }
 
 /** @param {Page} page */
