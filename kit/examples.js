@@ -15,7 +15,7 @@ export const EXAMPLES = [
   { name: 'classroom', title: 'The classroom run', group: 'runs',
     says: 'A train comes and goes; busy holds until five units are passed. The journal is accepted.' },
   { name: 'never-seen', title: 'A train that is never seen', group: 'runs',
-    says: 'A train comes and goes between two polls. What stands at no poll is never seen: the state stays idle.' },
+    says: 'A train comes and goes between two polls. What stands at no poll is never seen.' },
   { name: 'changed-verdict', title: 'The changed verdict', group: 'runs',
     says: 'The same run, in which one test says free where it is held.' },
   { name: 'quarry', title: "The quarry's fault", group: 'runs',

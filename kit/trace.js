@@ -268,11 +268,13 @@ export function isUnseen({ polledAt, change }) {
 }
 
 /**
- * The inputs that came and went, or that stood at the beginning and went, and that no poll took. The last one may still be seen.
+ * The inputs that came and went, or that stood at the beginning and went, and that no poll took. The last one may still be seen. Of an
+ * exercise nothing is said.
  * @param {Trace} trace
  * @returns {(Visit & {to: number})[]}
  */
 export function unseenInputs(trace) {
+  if (trace.asked) return [];
   return accepted(trace).flatMap(({ before, after, record }) => (before && after && before.present !== after.present && isUnseen(before)
     ? [{ state: before.present, from: before.change, to: record.time }] : []));
 }

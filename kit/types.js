@@ -131,6 +131,8 @@
  * @property {Refusal|null} refused
  * @property {number|null} at         where in `journal` the refused record starts
  * @property {number|null} stop       index of the refused step in `steps`
+ * @property {{all: Set<number>, open: Set<number>}} [asked]   in an exercise, which nobody has judged: the records whose values are asked, and
+ *                                    those of them that are not answered
  */
 
 /**
@@ -298,6 +300,7 @@
  *   openExercise(library, {table, names?}, asked: Asked): {ok: true, exercise: Exercise} | {ok: false, sentences, place, refusal}
  *   grade(library, exercise: Exercise): Grade;  sayCount(grade), sayMachines(grade): what is said of the answers
  *   exercise/about.js: exerciseAbout(library, tableBytes, topic, {seed, cycles?, kinds?, told?}), whyNot(table, topic), topicOf(name)
+ *   exercise/shown.js: exerciseTrace(table, tableBytes, asked): Trace     for the diagram: nothing is judged
  *   exercise/topics.js: TOPICS;  exercise/wrong-rules.js: WRONG_RULES, answersOf
  * names.js: plainNames, fittingNames, quoted, listed, counted, numbered, thousands; sets.js: has, members, setOf, wholeSet
  * examples.js: EXAMPLES, exampleFile

@@ -167,9 +167,9 @@ export function unseen(view) {
   const [first, last] = [stretch.from, Math.min(stretch.to, stretch.known)];
   const seen = unseenInputs(trace).map((run) => ({ ...run, value: 1, left: Math.max(run.from, first), right: Math.min(run.to, last) }));
   const runs = seen.filter(({ left, right }) => right > left);
-  if (!view.dense) return group({ class: 'unseen' }, runs.map((run) => unseenStretch(view, run, x(run.left), x(run.right) - x(run.left))));
+  if (!view.dense) return group({ class: 'never-seen' }, runs.map((run) => unseenStretch(view, run, x(run.left), x(run.right) - x(run.left))));
   const pieces = columnsOf(runs.map(({ left, right, value }) => ({ from: left, to: right, value })), x, 1.5);
-  return path(boxesOf(pieces, input.y, input.height), { fill: `url(#${hatch}-unseen)`, class: 'unseen' });
+  return path(boxesOf(pieces, input.y, input.height), { fill: `url(#${hatch}-unseen)`, class: 'never-seen' });
 }
 
 /**

@@ -14,7 +14,8 @@ import { refusedStep, xOf, yOf } from './view.js';
  * @param {View} view @param {Step} step
  */
 function inkOf(view, step) {
-  const { theme } = view;
+  const { theme, trace: { asked } } = view;
+  if (asked?.all.has(step.number)) return { line: theme.lit, fill: asked.open.has(step.number) ? theme.paper : theme.litFill };
   if (step === refusedStep(view)) return { line: theme.red, fill: theme.red };
   return step.after === null ? { line: theme.unread, fill: theme.paper } : null;
 }
@@ -77,7 +78,8 @@ function tickMark(view, step) {
   const x = xOf(view, step);
   const ink = inkOf(view, step)?.line ?? theme.ink;
   const half = 13 * Math.max(scale, 0.6);
-  const moves = step.after !== null && step.before !== null && step.after.state !== step.before.state;
+  const open = view.trace.asked?.open.has(step.number) === true;
+  const moves = !open && step.after !== null && step.before !== null && step.after.state !== step.before.state;
   const foot = moves ? lanes.state.y - 1 : lanes.band.y + lanes.band.height;
   return [
     line(x, lanes.band.y, x, foot, ink, 1.6 * Math.max(scale, 0.6)),

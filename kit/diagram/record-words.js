@@ -21,9 +21,10 @@ export const VERDICTS = ['held', 'free'];
  */
 export function wordsOf(view, labels, drawn) {
   const turning = turns(view.shown);
-  const readable = drawn.filter((step) => step.after !== null && (view.wordy || turning.has(step.number)));
+  const first = (/** @type {Step} */ step) => turning.has(step.number) || isAsked(view, step);
+  const readable = drawn.filter((step) => step.after !== null && (view.wordy || first(step)));
   const rank = (/** @type {Step} */ step) =>
-    (turning.has(step.number) ? 0 : 10) + ['test', 'tick', 'poll', 'change', 'end'].indexOf(step.record.kind);
+    (first(step) ? 0 : 10) + ['test', 'tick', 'poll', 'change', 'end'].indexOf(step.record.kind);
   readable.sort((a, b) => rank(a) - rank(b));
   return new Map(readable.map((step) => [step.number, placed(view, labels, step)]));
 }
@@ -68,12 +69,35 @@ function choicesOf(view, step) {
   return step.record.kind === 'tick' ? tickChoices(view, step) : [];
 }
 
+const OPEN = '?';
+
+/**
+ * In an exercise: is the value of this record asked?
+ * @param {View} view @param {Step} step
+ */
+const isAsked = ({ trace }, step) => trace.asked?.all.has(step.number) === true;
+
+/**
+ * What is asked and answered stands apart from what is given.
+ * @param {View} view @param {Step} step @param {string} given
+ */
+const inkOf = (view, step, given) => (isAsked(view, step) ? view.theme.lit : given);
+
+/**
+ * The value's name; a question mark where it is asked and not answered.
+ * @param {View} view @param {Step} step @param {string[]} names
+ */
+export function valueWord({ trace }, step, names) {
+  return trace.asked?.open.has(step.number) ? OPEN : nameOf(names, step.record.value);
+}
+
 /**
  * @param {View} view @param {Step} step
  */
 function pollChoices(view, step) {
   const { theme, sizes, trace, scale, lanes } = view;
-  const word = { y: lanes.poll + sizes.text * 0.36, text: nameOf(trace.names.inputs, step.record.value), size: sizes.text, fill: theme.poll };
+  const text = valueWord(view, step, trace.names.inputs);
+  const word = { y: lanes.poll + sizes.text * 0.36, text, size: sizes.text, fill: inkOf(view, step, theme.poll), bold: isAsked(view, step) };
   return sides(view, step, 5 + 8 * scale, [word]);
 }
 
@@ -85,9 +109,11 @@ function testChoices(view, step) {
   const { theme, sizes, trace, scale, lanes } = view;
   const held = step.record.value === 0;
   const y = lanes.test + sizes.text * 0.36;
-  const verdict = { y, text: nameOf(VERDICTS, step.record.value), size: sizes.text, fill: held ? theme.held : theme.free, bold: true };
-  const ticks = { y: y + sizes.small * 1.25, text: `${thousands(left(trace, step))} left`, size: sizes.small, fill: theme.held };
-  const choices = held ? [[verdict, ticks], [{ ...ticks, y }], [verdict]] : [[verdict]];
+  const fill = inkOf(view, step, held ? theme.held : theme.free);
+  const verdict = { y, text: valueWord(view, step, VERDICTS), size: sizes.text, fill, bold: true };
+  const units = left(trace, step);
+  const ticks = { y: y + sizes.small * 1.25, text: `${thousands(units)} left`, size: sizes.small, fill: theme.held };
+  const choices = units > 0 ? [[verdict, ticks], [{ ...ticks, y }], [verdict]] : [[verdict]];
   /** @type {Word} */
   const over = { ...verdict, x: xOf(view, step), y: lanes.test + (held ? -13 : 13 + sizes.text * 0.72), anchor: 'middle' };
   return [...choices.flatMap((words) => sides(view, step, 4 + 10 * scale, words)), [over]];
@@ -101,8 +127,10 @@ function testChoices(view, step) {
 function tickChoices(view, step) {
   const { theme, sizes, trace } = view;
   const moves = step.before?.state !== step.after?.state;
-  const name = nameOf(trace.names.states, step.record.value);
-  const style = { y: yOf(view, step) + sizes.text * 0.36, size: sizes.text, fill: moves ? theme.ink : theme.quiet, bold: moves };
+  const name = valueWord(view, step, trace.names.states);
+  const bold = moves || isAsked(view, step);
+  const style = { y: yOf(view, step) + sizes.text * 0.36, size: sizes.text, fill: inkOf(view, step, moves ? theme.ink : theme.quiet), bold };
+  if (trace.asked?.open.has(step.number)) return sides(view, step, 8, [{ ...style, text: OPEN }]);
   if (moves) return sides(view, step, 8, [{ ...style, text: `→ ${name}` }]);
   return [`stays ${name}`, 'stays'].map((text) => sides(view, step, 8, [{ ...style, text }])[0]);
 }

@@ -4,6 +4,7 @@ import { acceptanceLine, refusalLine, sayAcceptance } from '../answers.js';
 import { MEANINGS } from '../explain.js';
 import { counted } from '../names.js';
 import { fill, make } from './dom.js';
+import { sayExercise } from './exercise-answer.js';
 import { PANE_NAMES, spotOf } from './workspace.js';
 
 /** @typedef {import('./workspace.js').Answers} Answers */
@@ -22,7 +23,7 @@ import { PANE_NAMES, spotOf } from './workspace.js';
  * @property {{says: string, spot: Spot}[]} mistakes
  */
 
-const NOTHING = { meaning: '', sentences: [], slip: null, spot: null, mistakes: [] };
+export const NOTHING = { meaning: '', sentences: [], slip: null, spot: null, mistakes: [] };
 /** @type {Said} */
 export const UNSAID = { ...NOTHING, look: 'quiet', line: '', about: '' };
 const MISTAKES_SHOWN = 4;
@@ -32,13 +33,14 @@ const MISTAKES_SHOWN = 4;
  * @param {Answers} answers @param {string} pane
  * @returns {Subject|null}
  */
-export function subjectOf({ journal, stimulus }, pane) {
+export function subjectOf({ journal, stimulus, exercise }, pane) {
+  if (exercise && (pane !== 'stimulus' || !stimulus)) return exercise.subject;
   return (pane === 'stimulus' ? stimulus ?? journal : journal ?? stimulus) ?? null;
 }
 
 /**
  * @param {Answers} answers @param {import('../types.js').Refusal} refusal @param {import('../types.js').Explanation} why
- * @param {import('../types.js').Part} part @param {string} about @param {number} place
+ * @param {Subject['part']} part @param {string} about @param {number} place
  * @returns {Said}
  */
 function refused({ reading }, refusal, why, part, about, place) {
@@ -66,10 +68,10 @@ function sayOf(answers, subject) {
 }
 
 /**
- * @param {Answers} answers @param {Subject|null} subject
+ * @param {Answers} answers @param {Subject|null} subject @param {boolean} [tells]  is it time to tell what is right in an exercise?
  * @returns {Said}
  */
-export function sayAnswer(answers, subject) {
+export function sayAnswer(answers, subject, tells = false) {
   const { reading, tableRefused, tableExplanation, decoded } = answers;
   if (reading.mistakes.length > 0) {
     const count = reading.mistakes.length;
@@ -82,6 +84,7 @@ export function sayAnswer(answers, subject) {
   if (reading.table && tableRefused && tableExplanation) {
     return refused(answers, tableRefused, tableExplanation, reading.table, 'table', tableExplanation.blame.place);
   }
+  if (answers.exercise && subject?.kind !== 'stimulus') return sayExercise(reading, answers.exercise, tells);
   if (subject) return sayOf(answers, subject);
   const sentences = [decoded ? 'The table passes. Write a journal or a stimulus, or ask for a reaction time.' : 'Write a table, or open an example.'];
   return { ...NOTHING, look: decoded ? 'accepted' : 'quiet', line: decoded ? 'accepted' : 'No table yet', about: 'table', sentences };

@@ -23,6 +23,7 @@ function paneOf(line) {
   const heading = HEADING.exec(line);
   if (!heading) return null;
   const word = heading[4] ?? heading[2];
+  if (word === 'exercise') return 'journal';
   return PANES.find((pane) => pane === word) ?? 'table';
 }
 

@@ -5,6 +5,7 @@ import { narrate } from '../explain.js';
 import { counted, thousands } from '../names.js';
 import { easierToRead, tablePicture } from '../table-picture.js';
 import { keepRoom } from './answer-room.js';
+import { showBlank } from './blank.js';
 import { byId, empty, fill, inTwoColumns, show } from './dom.js';
 import { litAt, shownStep } from './lit.js';
 import { lookOf } from './looks.js';
@@ -33,8 +34,9 @@ export function draw(page) {
   if (!answers.decoded) empty('automaton', 'reaction-picture');
   rooms.begin(page);
   showTools(page);
-  for (const id of ['diagram', 'machine', 'stepping']) rooms.set(id, subject !== null);
-  rooms.set('reaction-panel', answers.decoded !== null);
+  for (const id of ['diagram', 'stepping']) rooms.set(id, subject !== null);
+  rooms.set('machine', subject !== null && subject.kind !== 'exercise');
+  for (const id of ['make-panel', 'reaction-panel']) rooms.set(id, answers.decoded !== null);
   placeAutomaton(page);
   byId('pictures').hidden = ['diagram', 'machine', 'automaton-below'].every((id) => byId(id).hidden);
   page.reaction.update(answers);
@@ -74,9 +76,11 @@ export function drawStep(page) {
   const step = shownStep(page);
   if (subject) drawDiagram(page, subject.trace);
   if (subject && step) {
-    showMachine(byId('machine'), subject.trace, step);
+    if (subject.kind === 'exercise') empty('machine');
+    else showMachine(byId('machine'), subject.trace, step);
     showWhere(subject.trace, page.step.selected);
   }
+  showBlank(page);
   if (answers.decoded) drawAutomaton(page, answers.decoded);
   showTouch(page);
   page.stage.draw();
@@ -91,7 +95,7 @@ const showsMachine = ({ subject, said, rooms }) => subject !== null || (said.mis
 /** @param {Page} page @param {Table} table */
 function drawAutomaton(page, table) {
   const { scale, ...look } = lookOf(page, byId('automaton'));
-  const lit = showsMachine(page) ? litAt(shownStep(page)) : { path: page.reaction.path };
+  const lit = page.subject?.kind === 'exercise' ? {} : showsMachine(page) ? litAt(shownStep(page)) : { path: page.reaction.path };
   show(byId('automaton'), tablePicture(table, { show: page.show, lit, ...look }), scale);
   fill(byId('show-as'), `Show the ${otherPicture(page, table)}`);
 }
@@ -136,7 +140,7 @@ function diagramLook(page) {
 /** @param {Page} page @param {Trace} trace */
 function drawDiagram(page, trace) {
   const { title, step: { selected, stepping } } = page;
-  const says = (/** @type {Step} */ step) => narrate(trace, step);
+  const says = trace.asked ? undefined : (/** @type {Step} */ step) => narrate(trace, step);
   const { scale, ...look } = diagramLook(page);
   const options = { head: false, low: true, selected, step: stepping, narrate: says, id: 'page', title, ...look };
   show(byId('diagram'), diagram(trace, options), scale);

@@ -5,6 +5,7 @@ import { byId, closeMenu } from './dom.js';
 import { redraw, showOther } from './drawing.js';
 import { tooLong } from './limits.js';
 import { listenToLive } from './live-controls.js';
+import { listenToExercises } from './making-controls.js';
 import { openExample, openFiles } from './opening.js';
 import { listenToStage } from './presenting.js';
 import { listSavings } from './saving.js';
@@ -27,6 +28,7 @@ export function listen(page) {
   listenToLive(page.live);
   listenToStage(page);
   listenToTouch(page);
+  listenToExercises(page);
 }
 
 /** @param {Page} page */

@@ -67,12 +67,12 @@ export function sayStep(trace, step) {
 }
 
 /**
- * A record that is looked at: its line, and a sentence about it. Null for the refused one.
+ * A record that is looked at: its line, and a sentence about it. Null for the refused one, and in an exercise.
  * @param {Trace} trace @param {Step} step
  * @returns {{record: string, says: string}|null}
  */
 export function saidAt(trace, step) {
-  const says = sayStep(trace, step);
+  const says = trace.asked ? null : sayStep(trace, step);
   return says === null ? null : { record: `${recordLine(step.record, trace.names).trim().replace(/\s+/g, ' ')}:`, says };
 }
 

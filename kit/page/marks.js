@@ -31,7 +31,8 @@ export function showBadges({ reading, tableRefused, decoded, journal, stimulus }
  * @param {Page} page
  */
 export function showFoot({ answers, pane, texts }) {
-  const { [pane]: read, place } = answers.reading;
+  const { place, exercise } = answers.reading;
+  const read = answers.reading[pane] ?? (pane === 'journal' ? exercise : null);
   const part = read && place(read.line).pane === pane ? read : null;
   const left = pane === 'table' ? '' : '; at the left line and byte';
   const empty = texts[pane].trim() === '' ? `Empty. Begin with the words: krossvil ${pane}` : '';
@@ -62,7 +63,7 @@ export function markTexts({ answers, subject, said, step, editors }) {
  */
 export function placesOf({ reading }, pane) {
   const places = new Map();
-  for (const { line, place } of [reading.stimulus, reading.journal].flatMap((part) => part?.origins ?? [])) {
+  for (const { line, place } of [reading.stimulus, reading.journal, reading.exercise].flatMap((part) => part?.origins ?? [])) {
     const own = reading.place(line);
     if (own.pane === pane && !places.has(own.line)) places.set(own.line, String(place));
   }

@@ -9,6 +9,7 @@ import { Editor } from './editor.js';
 import { Held } from './held.js';
 import { tooLong } from './limits.js';
 import { LivePanel } from './live.js';
+import { Making } from './making.js';
 import { saidAt } from './machine.js';
 import { markTexts, showBadges, showFoot } from './marks.js';
 import { Stage } from './presenting.js';
@@ -66,6 +67,7 @@ export class Page {
     this.live = new LivePanel(this);
     this.stage = new Stage(this);
     this.touching = new Touching(this);
+    this.making = new Making(this);
     /** Files and links are opened one after the other. @type {Promise<void>} */
     this.opening = Promise.resolve();
     this.reaction = new ReactionPanel(library, {
@@ -201,7 +203,7 @@ export class Page {
     if (long) return this.unanswered([long]);
     const answers = ask(this.library, texts);
     const subject = answers.reading.mistakes.length > 0 ? null : subjectOf(answers, this.pane);
-    const said = sayAnswer(answers, subject);
+    const said = sayAnswer(answers, subject, this.making.tells(texts));
     this.#held.hold({ answers, subject, said });
     this.say();
     keepRoom(this);
@@ -212,6 +214,7 @@ export class Page {
     markTexts(this);
     this.together.follow(texts);
     this.live.follow(texts);
+    this.making.follow();
     this.waiting.set('frame', requestAnimationFrame(() => draw(this)));
   }
 

@@ -76,7 +76,7 @@ export class Stage {
   /** The sentence about the record that is looked at; null where the answer stands in its place. */
   #about() {
     const { subject, step: { selected } } = this.page;
-    const step = subject && selected !== null ? subject.trace.steps[selected] : null;
+    const step = subject && subject.kind !== 'exercise' && selected !== null ? subject.trace.steps[selected] : null;
     return step && subject ? saidAt(subject.trace, step)?.says ?? null : null;
   }
 
@@ -89,7 +89,7 @@ export class Stage {
     const scale = room.width / wide >= NARROW ? wide : innerHeight * LEAST / SMALLEST.narrow;
     show(byId('stage-picture'), diagram(subject.trace, {
       head: false, low: true, selected, step: stepping, id: 'stage', title, theme: dark ? 'dark' : 'light', width: Math.floor(room.width / scale),
-      narrate: (step) => narrate(subject.trace, step),
+      narrate: subject.kind === 'exercise' ? undefined : (step) => narrate(subject.trace, step),
     }), scale);
   }
 
@@ -100,7 +100,7 @@ export class Stage {
     if (!decoded) return;
     const room = byId('stage-picture').getBoundingClientRect();
     const least = innerHeight * LEAST / SMALLEST.table;
-    const lit = page.subject ? litAt(shownStep(page)) : { path: page.reaction.path };
+    const lit = page.subject?.kind === 'exercise' ? {} : page.subject ? litAt(shownStep(page)) : { path: page.reaction.path };
     const svg = tablePicture(decoded, { show: page.show, lit, theme: page.dark ? 'dark' : 'light', width: Math.floor(room.width / least) });
     show(byId('stage-picture'), svg, 1);
     const { width, height } = byId('stage-picture').querySelector('svg').viewBox.baseVal;

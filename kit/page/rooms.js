@@ -9,7 +9,7 @@ import { PANE_NAMES } from './workspace.js';
 /** @typedef {import('./page.js').Page} Page */
 
 const PICTURES = ['diagram', 'automaton-beside', 'automaton-below'];
-const ROOMS = ['notice', 'answer', ...PICTURES, 'machine', 'tools-panel', 'reaction-panel', 'stepping'];
+const ROOMS = ['notice', 'answer', ...PICTURES, 'machine', 'tools-panel', 'make-panel', 'reaction-panel', 'stepping'];
 
 export class Rooms {
   /**

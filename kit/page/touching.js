@@ -19,12 +19,13 @@ import { ask } from './workspace.js';
 /** @typedef {{pane: Pane, text: string, places: Place[], kinds: string[]}} Held   a stimulus, and where its records stand */
 
 /**
- * The stimulus of what is shown: its own text, or that of the journal's inputs and times; null where there is none.
+ * The stimulus of what is shown: its own text, or that of the journal's inputs and times; null where there is none. An exercise has none: its run
+ * would be its answers.
  * @param {Page} page
  * @returns {Held|null}
  */
 export function stimulusShown({ subject, texts, answers: { reading } }) {
-  if (!subject) return null;
+  if (!subject || subject.kind === 'exercise') return null;
   const own = subject.kind === 'stimulus';
   const bytes = own ? subject.part.bytes : stimulusOf(subject.part.bytes, subject.trace.form);
   const elsewhere = reading.stimulus && reading.place(reading.stimulus.line).pane !== 'stimulus';

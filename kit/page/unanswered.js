@@ -3,9 +3,10 @@
 import { byId, closeMenu, empty, fill, make } from './dom.js';
 
 const SHOWS_ANSWERS = ['diagram', 'machine', 'automaton', 'where', 'step-short', 'spoken', 'tools', 'tool-answer', 'reaction-answer',
-  'reaction-slow', 'reaction-picture', 'pane-says', 'stage-picture', 'stage-says', 'touch-says', 'touch-refused', 'stage-where', 'live-time', 'live-says', 'save-list', 'together-list', 'paper'];
-const PICTURES = '#pictures, #automaton-beside, #automaton-below, #reaction-panel, #stepping';
-const OTHERS = '#tools-panel, #together, #live-panel, #run';
+  'reaction-slow', 'reaction-picture', 'pane-says', 'stage-picture', 'stage-says', 'stage-where', 'touch-says', 'touch-refused', 'live-time',
+  'live-says', 'make-says', 'blank-says', 'blank-choices', 'save-list', 'together-list', 'paper'];
+const PICTURES = '#pictures, #automaton-beside, #automaton-below, #make-panel, #reaction-panel, #stepping';
+const OTHERS = '#tools-panel, #together, #live-panel, #blank, #run';
 
 /** @param {string} rooms */
 function hide(rooms) {
@@ -37,6 +38,7 @@ export function showNothing(sentences, again = null) {
   empty(...SHOWS_ANSWERS);
   for (const badge of document.querySelectorAll('.badge')) badge.textContent = '';
   delete byId('tools').dataset.shown;
+  delete byId('blank-choices').dataset.shown;
   emptyPictures();
   hide(OTHERS);
   byId('save').open = false;

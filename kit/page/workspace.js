@@ -2,6 +2,8 @@
  * The three texts of the page, read as one, and the library's answers about them. Nothing is judged here, and nothing is drawn.
  */
 
+import { exerciseTrace } from '../exercise/shown.js';
+import { grade, openExercise } from '../exercise.js';
 import { decodeRecords, decodeTable } from '../fields.js';
 import { explainJournal, explainTable } from '../explain.js';
 import { originAt, readText } from '../notation.js';
@@ -9,6 +11,7 @@ import { traceJournal, traceStimulus } from '../trace.js';
 
 /** @typedef {import('../types.js').Library} Library */
 /** @typedef {import('../types.js').Part} Part */
+/** @typedef {import('../types.js').ExercisePart} ExercisePart */
 /** @typedef {import('../types.js').Names} Names */
 /** @typedef {import('../types.js').Table} Table */
 /** @typedef {import('../types.js').Trace} Trace */
@@ -26,18 +29,28 @@ import { traceJournal, traceStimulus } from '../trace.js';
  * @property {Part|null} table
  * @property {Part|null} stimulus
  * @property {Part|null} journal       of any of the three forms
+ * @property {ExercisePart|null} exercise  in the place of a journal
  * @property {(line: number) => {pane: Pane, line: number}} place  from a line of all texts to a pane's line
  */
 
 /**
- * What is known of a journal or a stimulus under a table that passes.
+ * What is known of a journal, a stimulus or an exercise under a table that passes.
  * @typedef {Object} Subject
- * @property {'journal'|'stimulus'} kind
+ * @property {'journal'|'stimulus'|'exercise'} kind
  * @property {Pane} pane               where its text stands: a text with several parts may stand in one pane
- * @property {Part} part
- * @property {Trace} trace             of a stimulus that runs, that of its journal
+ * @property {Part|ExercisePart} part
+ * @property {Trace} trace             of a stimulus that runs, that of its journal; of an exercise what was answered, which nobody has judged
  * @property {Explanation|null} explanation  of a refusal
  * @property {number[]} lines          of each step the line in that pane; 0 where it has none
+ */
+
+/**
+ * An exercise that can be done, or why it cannot; and what is to be told of its answers, when it is time.
+ * @typedef {Object} Doing
+ * @property {ExercisePart} part
+ * @property {Subject|null} subject
+ * @property {import('../exercise.js').Grade|null} grade
+ * @property {import('../exercise.js').Bad|null} bad
  */
 
 /**
@@ -49,6 +62,7 @@ import { traceJournal, traceStimulus } from '../trace.js';
  * @property {Table|null} decoded      a table that passes
  * @property {Subject|null} journal
  * @property {Subject|null} stimulus
+ * @property {Doing|null} exercise
  */
 
 /** @type {Pane[]} */
@@ -95,15 +109,18 @@ export function readPanes(texts) {
   };
   const said = headless.length > 0 && text.parts.length === 0 && all.every((line) => line.trim() === '') ? [] : text.mistakes;
   const parts = (/** @type {string[]} */ kinds) => text.parts.filter(({ kind }) => kinds.includes(kind));
-  const [journal = null, ...others] = parts(JOURNALS);
+  const [journal = null, ...others] = [...parts(JOURNALS), ...(text.exercise ? [text.exercise] : [])];
+  const exercise = journal?.kind === 'exercise' ? journal : null;
   const second = others.map(({ line }) => ({ line, column: 1, width: all[line - 1].length, says: 'a second journal; one at a time is answered' }));
   const mistakes = [...headless, ...[...said, ...second].map((mistake) => ({ ...mistake, ...place(mistake.line) }))];
-  return { mistakes, names: text.names, place, table: parts(['table'])[0] ?? null, stimulus: parts(['stimulus'])[0] ?? null, journal };
+  const [table = null] = parts(['table']);
+  const [stimulus = null] = parts(['stimulus']);
+  return { mistakes, names: text.names, place, table, stimulus, journal: journal?.kind === 'exercise' ? null : journal, exercise };
 }
 
 /**
  * The line of each record, by its number. Each origin of a whole record comes before those of its pieces.
- * @param {Reading} reading @param {Part} part @param {number[]} places
+ * @param {Reading} reading @param {Pick<Part, 'origins'>} part @param {number[]} places
  */
 function linesAt(reading, part, places) {
   /** @type {Map<number, number>} */
@@ -142,14 +159,30 @@ function stimulusSubject(library, reading, table) {
 }
 
 /**
+ * @param {Library} library @param {Reading} reading @param {Uint8Array} table
+ * @returns {Doing|null}
+ */
+function doingOf(library, reading, table) {
+  const { exercise: part, names } = reading;
+  if (!part) return null;
+  const opened = openExercise(library, { table, names }, part);
+  if (!opened.ok) return { part, subject: null, grade: null, bad: opened };
+  const trace = exerciseTrace(opened.exercise.table, table, part);
+  const lines = linesAt(reading, part, trace.steps.map(({ record }) => record.place));
+  /** @type {Subject} */
+  const subject = { kind: 'exercise', pane: reading.place(part.line).pane, part, trace, explanation: null, lines };
+  return { part, subject, grade: grade(library, opened.exercise), bad: null };
+}
+
+/**
  * Nothing is answered about these texts.
  * @param {Texts} texts
  * @returns {Answers}
  */
 export function noAnswers(texts) {
   const place = (/** @type {number} */ line) => ({ pane: PANES[0], line });
-  const reading = { mistakes: [], names: null, table: null, stimulus: null, journal: null, place };
-  return { texts, reading, tableRefused: null, tableExplanation: null, decoded: null, journal: null, stimulus: null };
+  const reading = { mistakes: [], names: null, table: null, stimulus: null, journal: null, exercise: null, place };
+  return { texts, reading, tableRefused: null, tableExplanation: null, decoded: null, journal: null, stimulus: null, exercise: null };
 }
 
 /**
@@ -171,12 +204,13 @@ export function ask(library, texts) {
   answers.decoded = decodeTable(bytes, reading.names);
   answers.journal = journalSubject(library, reading, bytes);
   answers.stimulus = stimulusSubject(library, reading, bytes);
+  answers.exercise = doingOf(library, reading, bytes);
   return answers;
 }
 
 /**
  * The piece of a pane's text that a refusal points at.
- * @param {Reading} reading @param {Part} part @param {number} place
+ * @param {Reading} reading @param {Pick<Part, 'bytes'|'origins'|'line'>} part @param {number} place
  * @returns {Spot|null}
  */
 export function spotOf(reading, part, place) {

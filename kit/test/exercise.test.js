@@ -1,16 +1,19 @@
 import assert from 'node:assert/strict';
 import { test } from 'node:test';
+import { diagram } from '../diagram.js';
 import { exerciseAbout, toldApart } from '../exercise/about.js';
+import { exerciseTrace } from '../exercise/shown.js';
 import { TOPICS, clocksOf } from '../exercise/topics.js';
 import { WRONG_RULES, answersOf } from '../exercise/wrong-rules.js';
 import { grade, makeExercise, openExercise, sayCount, sayMachines } from '../exercise.js';
 import { explainJournal } from '../explain.js';
-import { decodeRecords, decodeTable } from '../fields.js';
+import { decodeRecords, decodeTable, encodeTable } from '../fields.js';
 import { exerciseText, readText, tableText } from '../notation.js';
 import { stimulusOf } from '../rerun.js';
 import { Chance } from './chance.js';
 import { library, sample, sameBytes } from './core.js';
 import { drawRun } from './draw.js';
+import { all, readXml } from './well-formed.js';
 
 const KINDS = [['poll', 'test', 'tick'], ['test', 'tick'], ['test'], ['tick'], ['poll']];
 
@@ -213,4 +216,29 @@ test('a table that cannot show a topic: a sentence says why', () => {
   assert.match(says(one, 'poll'), /one input only/);
   assert.match(says(one, 'test'), /cycle bound is 1/);
   assert.match(says(one, 'change'), /never changes/);
+});
+
+test('the diagram of an exercise gives nothing away: with other holds or timers it is the same, whatever is right', () => {
+  for (const name of ['classroom', 'gas-burner', 'watchdog']) {
+    const { table: bytes, stimulus, names } = read(sample(name));
+    const table = decodeTable(bytes, names);
+    const other = { ...table, holds: table.holds.map((hold) => 2 * hold), timers: table.timers.map((timer) => ({ ...timer, length: 1 })) };
+    const pictures = [table, other].map((each) => {
+      const { asked } = makeExercise(library, { table: encodeTable(each), stimulus }, {});
+      return diagram(exerciseTrace(each, bytes, asked), { width: 900 });
+    });
+    assert.equal(pictures[0], pictures[1]);
+    const marks = all(readXml(pictures[0])).filter(({ attributes }) => attributes.class === 'record asked');
+    assert.equal(marks.length, decodeRecords(stimulus, 'stimulus').filter(({ kind }) => ['poll', 'test', 'tick'].includes(kind)).length);
+    assert.doesNotMatch(pictures[0], /hold-end|never-seen"><g| left</);
+  }
+});
+
+test('what was answered stands in the diagram of an exercise as it was said, right or wrong', () => {
+  const { asked } = makeExercise(library, CLASSROOM, {});
+  const said = answered(asked, ({ kind, record }) => (record > 8 ? null : kind === 'tick' ? 1 : 0));
+  const trace = exerciseTrace(decodeTable(CLASSROOM.table, CLASSROOM.names), CLASSROOM.table, said);
+  const titles = [...diagram(trace).matchAll(/<title>([^<]*)</g)].map(([, words]) => words);
+  assert.ok(titles.includes('record 2, byte 12: poll at 2, no_train') && titles.includes('record 3, byte 20: test at 2, held'));
+  assert.ok(titles.includes('record 4, byte 28: tick at 3, busy') && titles.includes('record 9, byte 68: poll at 7, ?'));
 });

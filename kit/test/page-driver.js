@@ -13,8 +13,8 @@ function drive() {
   const FILES = [['t', TABLE], ['a', [16, 0, 1, 0]], ['b', [16, 0, 1, 0, 31, 0, 4, 0, 0, 0, 0]], ['c', [137, 80, 78, 71]], ['d', [32, 0, 1, 0]]];
   const TEXT = 'krossvil journal\ninput 0\n';
   const ANSWERS = '#live-time, #live-says, #machine, #where, #step-short, #reaction-answer, #reaction-slow, #tool-answer, #together-list, #pane-says, '
-    + '#save-list, #tools, .number';
-  const ROOMS = '#pictures, .slot, .stepping, #tools-panel, #reaction-panel, #together, #live-panel, #run';
+    + '#save-list, #tools, .number, #make-says, #blank-says, #blank-choices';
+  const ROOMS = '#pictures, .slot, .stepping, #tools-panel, #reaction-panel, #together, #live-panel, #make-panel, #blank, #run';
 
   const id = (name) => document.getElementById(name);
   const all = (selector) => [...document.querySelectorAll(selector)];
@@ -72,6 +72,17 @@ function drive() {
     liveClock: async () => { liveInput(); id('live-clock').dispatchEvent(new Event('pointerdown')); await settle();
       id('live-clock').dispatchEvent(new Event('pointerup')); },
     liveNew: () => { liveInput(); id('live-new').click(); },
+    makeShown: () => { id('make-told').value = 'each'; id('make-shown').click(); },
+    makeAbout: () => { id('make-seed').value = '1'; id('make-topic').dispatchEvent(new Event('change')); id('make-about').click(); },
+    answer: async () => { id('make-shown').click(); await settle(); id('blank-next').click(); await pressSoon('#blank-choices button'); },
+    key: async () => { id('make-shown').click(); await settle(); for (const key of ['n', '1']) document.body.dispatchEvent(new KeyboardEvent('keydown', { key })); },
+    makeUntold: () => { id('make-told').value = 'end'; id('make-shown').click(); },
+    tell: async () => {
+      id('make-told').value = 'end'; id('make-shown').click(); await settle();
+      journal.value = journal.value.replaceAll('?', '? 0'); type('');
+      await settle(); id('blank-tell').click();
+    },
+    badExercise: () => { journal.value = journal.value.replace('journal', 'exercise'); type(''); },
     link: () => id('link').click(),
     dark: () => id('dark').click(),
     print: () => window.dispatchEvent(new Event('beforeprint')),

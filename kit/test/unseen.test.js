@@ -42,7 +42,7 @@ test('an input that no poll took is hatched in the diagram, and no other; steppi
     assert.deepEqual(said, expected.map(({ to }) => to));
     for (const width of [1280, 390]) {
       const root = readXml(diagram(trace, { width }));
-      const groups = ofClass(root, 'unseen').flatMap((each) => all(each)).filter(({ attributes }) => attributes['data-to'] !== undefined);
+      const groups = ofClass(root, 'never-seen').flatMap((each) => all(each)).filter(({ attributes }) => attributes['data-to'] !== undefined);
       const [from, to] = ['data-from', 'data-to'].map((key) => Number(root.attributes[key]));
       const shown = expected.filter((each) => Math.min(each.to, to) > Math.max(each.from, from));
       const drawn = groups.map(({ attributes }) => [Number(attributes['data-from']), Number(attributes['data-to'])]);
