@@ -92,6 +92,16 @@ export const COMMANDS = {
       ['krossvil exercise classroom.kv --about entry --seed 7 --length 15', 'those who start the hold again at each tick are found out'],
     ],
   },
+  sheet: {
+    group: 'in class', files: 'TABLE [STIMULUS]', count: [1, 2], options: ['output', 'title', 'paper', 'blank'], module: () => import('./sheet.js'), writes: true,
+    says: 'a worksheet of a run and its solutions (.html .pdf)',
+    more: ['The table as automaton and as text, the diagram with empty verdicts and states, and lines for answers; on the next sheet the solutions.',
+      '.pdf needs the package chromium, whose own print makes it; .html is printed by any browser.'],
+    examples: [
+      ['krossvil sheet classroom.kv -o classroom.html', 'open classroom.html and print it'],
+      ['krossvil sheet classroom.kv -o classroom.html --paper letter --title "Trains"', 'for paper of another size, with a title of its own'],
+    ],
+  },
   page: {
     group: 'in class', files: '[TABLE [JOURNAL] [STIMULUS]]', count: [0, 3], options: ['output', 'title'],
     module: () => import('./page.js'), writes: true,

@@ -4,6 +4,7 @@ import { closeSync, fstatSync, openSync, readSync, readdirSync, statSync, writeS
 import { createRequire } from 'node:module';
 import { join } from 'node:path';
 import { Inputs, isOpenAs, writeWhole } from './output-files.js';
+import { printed } from './printing.js';
 import { getSystemErrorMessage, orTrouble } from './system-errors.js';
 import { whyFailed } from './tool-failure.js';
 import { Trouble } from './trouble.js';
@@ -23,6 +24,7 @@ import { Trouble } from './trouble.js';
  * @property {(text: string) => void} complain                       to the standard error
  * @property {() => void} finish                                     what was printed and still waits goes out
  * @property {(tool: string, args: string[], input: string) => Uint8Array|null} convert   null if the tool is not there
+ * @property {(html: string) => Uint8Array|null} paper                as PDF, by a browser's print; null if there is none
  * @property {boolean} printsToTerminal
  * @property {boolean} complainsToTerminal
  * @property {boolean} colours
@@ -224,6 +226,7 @@ export const realIo = {
   },
   finish: () => waiting.flush(),
   convert,
+  paper: printed,
   printsToTerminal: PRINTS_TO_TERMINAL,
   complainsToTerminal: isTerminal(ERRORS),
   colours: PRINTS_TO_TERMINAL && !process.env.NO_COLOR && process.env.TERM !== 'dumb',

@@ -25,6 +25,7 @@ export const OPTIONS = {
   within: { type: 'string', value: 'C', says: 'assert that the target is reached within C' },
   hold: { type: 'boolean', says: 'assert that no state is left too soon' },
   scale: { type: 'string', value: 'N', says: 'divide all times by N, where they can be divided' },
+  paper: { type: 'string', value: 'SIZE', says: 'A4 or letter; A4 if left out' },
   seconds: { type: 'string', value: 'N', says: 'search for at most so long; 10 if left out' },
   follow: { type: 'boolean', says: 'read on while the file grows, up to the end record' },
   about: { type: 'string', value: 'TOPIC', says: 'poll, entry, delayed, passed, test, change or region: the rule that the exercise is about' },

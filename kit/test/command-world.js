@@ -42,6 +42,7 @@ export async function ask(args, files = {}, world = {}) {
     complain(text) { printed.err.push(bytesOf(text)); },
     finish() {},
     convert: (tool, options, input) => Buffer.from(`${tool} ${options.join(' ')} ${input.length}`),
+    paper: (html) => Buffer.from(`%PDF ${html.length}`),
     printsToTerminal: false, complainsToTerminal: false, colours: false, columns: 80, ...world,
   };
   const code = await main(args, io, async () => world.library ?? library);
