@@ -1,9 +1,10 @@
-/* An example host: asks how long a reaction takes, and how long in whole units. Sets are numbers, member i as 2^i. It prints the time, the
- * target and the tight time, or the refusal.
+/* An example host: asks how long a reaction takes, and how long in whole units; for one move, or for as many as are named. Sets are
+ * numbers, member i as 2^i. It prints the time, the target and the tight time, or the refusal.
  *
  *   rt staticlib krossvil
  *   gcc -O2 -Iinclude examples/tight.c target/staticlib/libkrossvil.a -o tight
  *   ./tight examples/classroom/table.bin 3 1
+ *   ./tight examples/back-to-idle/table.bin 31 1 3
  */
 #include <stdio.h>
 #include "files.h"
@@ -16,17 +17,19 @@ static uint8_t table[KROSSVIL_TABLE_MAX + 1];
 int main(int count, char **words)
 {
     size_t size;
-    uint32_t states, inputs;
+    uint32_t states, inputs, moves = 1;
     uint8_t answer[KROSSVIL_TIGHT_ANSWER];
 
-    if (count != 4) {
-        fprintf(stderr, "usage: tight TABLE STATES INPUTS\n");
+    if (count != 4 && count != 5) {
+        fprintf(stderr, "usage: tight TABLE STATES INPUTS [MOVES]\n");
         return 2;
     }
-    if (!load(words[1], table, sizeof table, &size) || !read_number(words[2], &states) || !read_number(words[3], &inputs))
+    if (!load(words[1], table, sizeof table, &size) || !read_number(words[2], &states) || !read_number(words[3], &inputs) ||
+        (count == 5 && !read_number(words[4], &moves)))
         return 2;
 
-    uint64_t code = krossvil_reaction_tight(table, size, states, inputs, answer, sizeof answer);
+    uint64_t code = count == 5 ? krossvil_reaction_tight_moves(table, size, states, inputs, moves, answer, sizeof answer)
+                               : krossvil_reaction_tight(table, size, states, inputs, answer, sizeof answer);
     if (code != 0) {
         printf("refused %u at %u\n", krossvil_number(code), krossvil_place(code));
         return 1;

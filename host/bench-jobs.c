@@ -12,6 +12,7 @@ struct side {
     __typeof__(&krossvil_reaction) reaction;
     __typeof__(&krossvil_reaction_tight) reaction_tight;
     __typeof__(&krossvil_reaction_moves) reaction_moves;
+    __typeof__(&krossvil_reaction_tight_moves) reaction_tight_moves;
     __typeof__(&krossvil_report_add) report_add;
     __typeof__(&krossvil_live) live;
     __typeof__(&krossvil_watch) watch;
@@ -28,7 +29,7 @@ struct side {
 #define NOT_TUNED(name)                                                                                                                  \
     .check_short = name##_check_short, .run = name##_run, .report_add = name##_report_add, .live = name##_live, .watch = name##_watch,   \
     .shorten = name##_shorten, .lengthen = name##_lengthen, .salvage = name##_salvage, .read_stamped = name##_read_stamped,              \
-    .convert_table = name##_convert_table
+    .convert_table = name##_convert_table, .reaction_tight_moves = name##_reaction_tight_moves
 
 const struct side library = { TUNED(krossvil), NOT_TUNED(krossvil) };
 const struct side plain = { TUNED(plain), NOT_TUNED(plain) };
@@ -76,6 +77,11 @@ static uint64_t call_reaction_moves(const struct side *side, const struct input 
 {
     return side->reaction_moves(in->table, in->table_len, in->states, in->inputs, in->moves, written.sums, KROSSVIL_SUMS_MAX, written.bytes,
                                 KROSSVIL_PATH_MAX, answer, KROSSVIL_MOVES_ANSWER);
+}
+
+static uint64_t call_reaction_tight_moves(const struct side *side, const struct input *in, uint8_t *answer)
+{
+    return side->reaction_tight_moves(in->table, in->table_len, in->states, in->inputs, in->moves, answer, KROSSVIL_TIGHT_MOVES_ANSWER);
 }
 
 static uint64_t call_report_add(const struct side *side, const struct input *in, uint8_t *answer)
@@ -147,6 +153,7 @@ const struct job run = { call_run, stimulus_bytes, false };
 const struct job reaction = { call_reaction, table_bytes, true };
 const struct job reaction_tight = { call_reaction_tight, table_bytes, true };
 const struct job reaction_moves = { call_reaction_moves, table_bytes, true };
+const struct job reaction_tight_moves = { call_reaction_tight_moves, table_bytes, false };
 const struct job report_add = { call_report_add, journal_bytes, false };
 const struct job live = { call_live, stimulus_bytes, false };
 const struct job watch = { call_watch, journal_bytes, false };

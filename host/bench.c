@@ -73,6 +73,8 @@ static void add_moves(void)
 {
     for (uint32_t moves = 8; moves <= 32; moves *= 2)
         add_line(&reaction_moves, (struct plan){ .count = 32, .bound = 60, .moves = moves }, "reaction, 32 states, %u moves", moves);
+    for (uint32_t moves = 8; moves <= 32; moves *= 2)
+        add_line(&reaction_tight_moves, (struct plan){ .count = 32, .bound = 60, .moves = moves }, "tight, 32 states, %u moves", moves);
 }
 
 /* Irregular runs of 1 KB, so that an event is any of them. In each call the table is checked, which is most of it. */

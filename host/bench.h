@@ -37,7 +37,7 @@ struct job {
     bool is_tuned;                           /* tuned C has it too */
 };
 
-extern const struct job check_table, check_journal, check_short, run, reaction, reaction_tight, reaction_moves, report_add, live, watch, shorten,
+extern const struct job check_table, check_journal, check_short, run, reaction, reaction_tight, reaction_moves, reaction_tight_moves, report_add, live, watch, shorten,
     lengthen, salvage, read_stamped, convert_table;
 
 /* What calls write beside their answers. */

@@ -17,6 +17,7 @@ uint64_t second_reaction(const uint8_t *, uint64_t, uint32_t, uint32_t, uint8_t 
 uint64_t second_reaction_moves(const uint8_t *, uint64_t, uint32_t, uint32_t, uint32_t, uint32_t *, uint64_t, uint8_t *, uint64_t, uint8_t *,
                                uint64_t);
 uint64_t second_reaction_tight(const uint8_t *, uint64_t, uint32_t, uint32_t, uint8_t *, uint64_t);
+uint64_t second_reaction_tight_moves(const uint8_t *, uint64_t, uint32_t, uint32_t, uint32_t, uint8_t *, uint64_t);
 uint64_t second_convert_table(const uint8_t *, uint64_t, uint8_t *, uint64_t, uint8_t *, uint64_t);
 uint64_t second_read_stamped(const uint8_t *, uint64_t, uint8_t *, uint64_t, uint8_t *, uint64_t);
 uint64_t second_check_short(const uint8_t *, uint64_t, const uint8_t *, uint64_t, uint8_t *, uint64_t);
@@ -32,6 +33,7 @@ uint64_t second_watch(const uint8_t *, uint64_t, uint32_t *, uint64_t, const uin
 #define krossvil_reaction second_reaction
 #define krossvil_reaction_moves second_reaction_moves
 #define krossvil_reaction_tight second_reaction_tight
+#define krossvil_reaction_tight_moves second_reaction_tight_moves
 #define krossvil_convert_table second_convert_table
 #define krossvil_read_stamped second_read_stamped
 #define krossvil_check_short second_check_short
@@ -823,15 +825,15 @@ static void damage_pieces(const struct plan *plan, enum form form)
 
 enum entry {
     CHECK_TABLE, CHECK_JOURNAL, RUN, REACTION, CONVERT_TABLE, READ_STAMPED, CHECK_SHORT, SHORTEN, LENGTHEN, SALVAGE, REPORT_ADD,
-    REACTION_MOVES, REACTION_TIGHT, LIVE, WATCH, ENTRIES
+    REACTION_MOVES, REACTION_TIGHT, TIGHT_MOVES, LIVE, WATCH, ENTRIES
 };
 
 static const struct {
     const char *name;
     enum form takes, writes;
     size_t answer_size;
-    unsigned share, damaged; /* percent: of the random cases, and how many of these have a damaged table; the last four have no share:
-                                two follow each REACTION, REACTION_MOVES with a table of its own, and LIVE and WATCH follow each
+    unsigned share, damaged; /* percent: of the random cases, and how many of these have a damaged table; the last five have no share:
+                                three follow each REACTION, two of them with a table of their own, and LIVE and WATCH follow each
                                 stimulus and each journal, field by field */
 } entries[ENTRIES] = {
     [CHECK_TABLE] = { "check_table", NOTHING, NOTHING, 0, 13, 65 },
@@ -847,6 +849,7 @@ static const struct {
     [REPORT_ADD] = { "report_add", JOURNAL, REPORT, 0, 5, 25 },
     [REACTION_MOVES] = { "reaction_moves", NOTHING, SUMS, 12, 0, 20 },
     [REACTION_TIGHT] = { "reaction_tight", NOTHING, NOTHING, 12, 0, 0 },
+    [TIGHT_MOVES] = { "tight_moves", NOTHING, NOTHING, 12, 0, 0 },
     [LIVE] = { "live", STIMULUS, MEMORY, 24, 0, 0 },
     [WATCH] = { "watch", JOURNAL, MEMORY, 28, 0, 0 },
 };
@@ -962,6 +965,10 @@ static void call_side(const struct call *call, bool library, struct side *side)
         side->returned = (library ? krossvil_reaction_moves : reference_reaction_moves)(
             table, table_len, call->states, call->inputs, call->moves, side->output.sums + side->output.before / 4, output_len / 4,
             side->path.at + side->path.before, call->path_len, answer, answer_len);
+        break;
+    case TIGHT_MOVES:
+        side->returned = (library ? krossvil_reaction_tight_moves : reference_reaction_tight_moves)(
+            table, table_len, call->states, call->inputs, call->moves, answer, answer_len);
         break;
     case CONVERT_TABLE:
         side->returned = (library ? krossvil_convert_table : reference_convert_table)(table, table_len, output,
@@ -1176,6 +1183,20 @@ static const char *badly_tightened(const struct call *call, const struct side *s
     return (tight == time) == (time == bound) ? NULL : "the tight time is the time where it must not be, or is not where it must be";
 }
 
+/* The same over several moves, by the reference's sums: below the time by one tick at least where there is a path, and by at most one and one
+ * for each state of it. */
+static const char *badly_tightened_over(const struct call *call, const struct side *side)
+{
+    static struct several several;
+    uint32_t bound = number_in(call->table->at + 10, 0), time = answer_number(&side->answer, 0), tight = answer_number(&side->answer, 2);
+    if (!reference_several(call->table->at, call->table->len, call->states, call->inputs, call->moves, BY_ROUNDS, &several) ||
+        time != several.time || answer_number(&side->answer, 1) != several.target)
+        return "time and target are not the calculator's over several moves";
+    if (tight < bound || tight > time || time - tight > 1 + (several.path_len + 1) / 2)
+        return "the tight time is below E, above the time, or too far below it";
+    return (tight == time) == (several.path_len == 0) ? NULL : "the tight time is the time where it must not be, or is not where it must be";
+}
+
 static bool same_bytes(const struct lent *lent, size_t written, const struct bytes *right)
 {
     return written == right->len && memcmp(lent->at + lent->before, right->at, written) == 0;
@@ -1216,6 +1237,8 @@ static const char *broken(const struct call *call, const struct side *side)
         return badly_added(call, side);
     if (success && call->entry == REACTION_TIGHT)
         return badly_tightened(call, side);
+    if (success && call->entry == TIGHT_MOVES)
+        return badly_tightened_over(call, side);
     return success && call->entry == SALVAGE ? badly_salvaged(call, side, written) : NULL;
 }
 
@@ -1277,7 +1300,7 @@ static void print_case(const char *label, const struct call *call, const char *r
         print_bytes("table", call->table->at, call->table->len);
     if (takes != NOTHING)
         print_bytes(form_names[takes], call->input->at, call->input->len);
-    if (calculators[call->entry][0] != NULL || call->entry == REACTION_MOVES)
+    if (calculators[call->entry][0] != NULL || call->entry == REACTION_MOVES || call->entry == TIGHT_MOVES)
         printf("  states %08" PRIX32 ", inputs %08" PRIX32 ", moves %" PRIu32 "\n", call->states, call->inputs, call->moves);
     if (call->entry == REACTION_MOVES || call->entry == LIVE) {
         printf("  path or record buffer of %zu bytes\n", call->path_len);
@@ -1694,6 +1717,17 @@ static void ask_for_tight(const char *label, const struct call *reaction)
     compare(label, &tight, NULL);
 }
 
+/* The same question over several moves. With one, `wanted` is what the tight calculator has said, or NULL. */
+static void ask_for_tight_moves(const char *label, const struct call *several, const uint64_t *wanted)
+{
+    struct call tight = *several;
+    tight.entry = TIGHT_MOVES;
+    tight.output_len = tight.path_len = 0;
+    tight.right = tight.right_path = NULL;
+    tight.answer_len = wanted == NULL ? draw_answer_len(entries[TIGHT_MOVES].answer_size) : 12;
+    compare(label, &tight, wanted);
+}
+
 /* The same question of one move, in both ways: the same refusal, or the same time and target. */
 static void ask_of_one_move(const char *label, const struct call *several)
 {
@@ -1710,7 +1744,12 @@ static void ask_of_one_move(const char *label, const struct call *several)
     one.entry = REACTION;
     one.output_len = one.path_len = 0;
     compare(label, &one, wanted);
-    ask_for_tight(label, &one);
+    one.entry = REACTION_TIGHT;
+    compare(label, &one, NULL);
+    uint64_t tight[4] = { library_side.returned, 0, 0, 0 };
+    for (size_t k = 0; tight[0] == 0 && k < 3; k++)
+        tight[1 + k] = answer_number(&library_side.answer, k);
+    ask_for_tight_moves(label, &one, tight);
     if (wanted[0] == 0)
         came_back[REACTION_MOVES]++;
 }
@@ -1755,6 +1794,7 @@ static void several_moves_case(const char *label)
     call.path_len = draw_room(rows == 0 ? 0 : 2 * rows - 1);
     call.answer_len = draw_answer_len(entries[REACTION_MOVES].answer_size);
     compare(label, &call, NULL);
+    ask_for_tight_moves(label, &call, NULL);
     work_out_twice(label, &call);
     ask_of_one_move(label, &call);
 }
@@ -2263,6 +2303,8 @@ static void timer_cases(void)
     compare("a reaction time with a timer", &call, (const uint64_t[]){ REFUSED(14, 0) });
     call.entry = REACTION_TIGHT;
     compare("a tight reaction time with a timer", &call, (const uint64_t[]){ REFUSED(14, 0) });
+    call.entry = TIGHT_MOVES;
+    compare("a tight reaction time over several moves with a timer", &call, (const uint64_t[]){ REFUSED(14, 0) });
     call.entry = CONVERT_TABLE;
     compare("a timer converted", &call, (const uint64_t[]){ REFUSED(2, 26) });
     for (size_t k = 0; k < sizeof changes / sizeof *changes; k++) {
@@ -2885,6 +2927,7 @@ static void compare_moves(const char *label, uint32_t states, uint32_t inputs, u
         compare(label, &call, wanted[0] != 0 || otherwise == 0 ? wanted : &otherwise);
     }
     call.right = call.right_path = NULL;
+    ask_for_tight_moves(label, &call, NULL);
     ask_of_one_move(label, &call);
     uint64_t before = worked_out_twice;
     bool few = (inputs & (inputs - 1)) == 0 || moves <= 8; /* inputs in A, or moves: few enough for the paths to be tried */
@@ -3214,9 +3257,11 @@ static bool can_give(enum entry entry, unsigned number)
         return entry == LIVE || entry == WATCH;
     if (number == 19 && (entry == LIVE || entry == WATCH))
         return false;
-    if (entry == REACTION_MOVES && (number == 32 || number == 33))
+    if (number == 32 && (entry == REACTION_MOVES || entry == TIGHT_MOVES))
         return true;
-    if (entry == REACTION_MOVES || calculators[entry][0] != NULL)
+    if (number == 33 && entry == REACTION_MOVES)
+        return true;
+    if (entry == REACTION_MOVES || entry == TIGHT_MOVES || calculators[entry][0] != NULL)
         return number == 9 || number == 10 || number == 14;
     if (entry == SALVAGE)
         return number >= 19 && number <= 23; /* all that is wrong behind the opening field is salvaged */

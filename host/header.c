@@ -96,6 +96,11 @@ static uint64_t reaction_moves(uint64_t len)
 
 static uint64_t reaction_tight(uint64_t len) { return krossvil_reaction_tight(table, table_len, EVERY_STATE, EVERY_INPUT, answer, len); }
 
+static uint64_t reaction_tight_moves(uint64_t len)
+{
+    return krossvil_reaction_tight_moves(table, table_len, EVERY_STATE, EVERY_INPUT, 2, answer, len);
+}
+
 static uint64_t convert(uint64_t len) { return krossvil_convert_table(table, table_len, written, sizeof written, answer, len); }
 
 static uint64_t read_stamped(uint64_t len)
@@ -159,6 +164,7 @@ static void test_answers(void)
     EXPECT(answers(reaction, KROSSVIL_REACTION_ANSWER));
     EXPECT(answers(reaction_moves, KROSSVIL_MOVES_ANSWER));
     EXPECT(answers(reaction_tight, KROSSVIL_TIGHT_ANSWER));
+    EXPECT(answers(reaction_tight_moves, KROSSVIL_TIGHT_MOVES_ANSWER));
     EXPECT(answers(convert, KROSSVIL_CONVERT_ANSWER));
     EXPECT(answers(read_stamped, KROSSVIL_STAMPED_ANSWER));
     EXPECT(answers(check_short, KROSSVIL_SHORT_ANSWER));

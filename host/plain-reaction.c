@@ -147,3 +147,43 @@ uint64_t plain_reaction_moves(const uint8_t *table, uint64_t table_len, uint32_t
     put4(answer + 8, length);
     return 0;
 }
+
+/* The largest sum of a path of at most so many states, by two rows. */
+static uint32_t largest_sum(const struct table *t, uint32_t way, uint32_t inputs, const uint32_t *weights, uint32_t moves)
+{
+    uint32_t rows[2][32], sum = 0;
+    for (uint32_t k = 0; k < moves; k++)
+        round_of(t, way, inputs, weights, k == 0 ? NULL : rows[(k + 1) % 2], rows[k % 2]);
+    for (uint32_t q = 0; moves > 0 && q < t->states; q++)
+        if (rows[(moves - 1) % 2][q] > sum)
+            sum = rows[(moves - 1) % 2][q];
+    return sum;
+}
+
+uint64_t plain_reaction_tight_moves(const uint8_t *table, uint64_t table_len, uint32_t states, uint32_t inputs, uint32_t moves,
+                                    uint8_t *answer, uint64_t answer_len)
+{
+    struct table t;
+    uint32_t target = states, next, weights[32], tights[32];
+    uint64_t code;
+    if ((code = read_table(table, table_len, NOW, &t)) || (code = check_sets(&t, states, inputs)))
+        return code;
+    if (moves > MOST_MOVES)
+        return refusal(32, 0);
+    if ((code = next_set(&t, states, inputs, &next)))
+        return code;
+    if (answer_len < 12)
+        return refusal(30, 0);
+    for (uint32_t k = 0; k < moves; k++)
+        next_set(&t, target, inputs, &target); /* what is left of a set is in it */
+    for (uint32_t q = 0; q < t.states; q++) {
+        weights[q] = weight(&t, q, inputs);
+        tights[q] = weights[q] == t.bound ? t.bound : weights[q] - 1;
+    }
+    uint32_t sum = largest_sum(&t, states & ~target, inputs, weights, moves);
+    uint32_t tight = largest_sum(&t, states & ~target, inputs, tights, moves);
+    put4(answer, t.bound + sum);
+    put4(answer + 4, target);
+    put4(answer + 8, tight == 0 ? t.bound : t.bound + tight - 1);
+    return 0;
+}

@@ -30,6 +30,9 @@ uint64_t plain_reaction_moves(const uint8_t *table, uint64_t table_len, uint32_t
 uint64_t plain_reaction_tight(const uint8_t *table, uint64_t table_len, uint32_t states, uint32_t inputs, uint8_t *answer,
                               uint64_t answer_len);
 
+uint64_t plain_reaction_tight_moves(const uint8_t *table, uint64_t table_len, uint32_t states, uint32_t inputs, uint32_t moves,
+                                    uint8_t *answer, uint64_t answer_len);
+
 /* host/plain-rewrite.c */
 uint64_t plain_shorten(const uint8_t *table, uint64_t table_len, const uint8_t *journal, uint64_t journal_len, uint8_t *short_journal,
                        uint64_t short_len, uint8_t *answer, uint64_t answer_len);

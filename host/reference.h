@@ -1,4 +1,4 @@
-/* A second implementation of the fifteen entries in plain C, written from the rules alone; docs/RULES.md, "In C", says what each
+/* A second implementation of the sixteen entries in plain C, written from the rules alone; docs/RULES.md, "In C", says what each
  * takes and gives. The library is held against it.
  * With SECOND defined the same entries get the prefix second_, so that two builds can be linked into one program. */
 #ifndef REFERENCE_H
@@ -16,6 +16,7 @@
 #define reference_reaction_moves second_reaction_moves
 #define reference_several second_several
 #define reference_reaction_tight second_reaction_tight
+#define reference_reaction_tight_moves second_reaction_tight_moves
 #define reference_convert_table second_convert_table
 #define reference_read_stamped second_read_stamped
 #define reference_check_short second_check_short
@@ -45,6 +46,9 @@ uint64_t reference_reaction_moves(const uint8_t *table, uint64_t table_len, uint
 
 uint64_t reference_reaction_tight(const uint8_t *table, uint64_t table_len, uint32_t states, uint32_t inputs,
                                   uint8_t *answer, uint64_t answer_len);
+
+uint64_t reference_reaction_tight_moves(const uint8_t *table, uint64_t table_len, uint32_t states, uint32_t inputs, uint32_t moves,
+                                        uint8_t *answer, uint64_t answer_len);
 
 uint64_t reference_convert_table(const uint8_t *table, uint64_t table_len, uint8_t *new_table, uint64_t new_table_len,
                                  uint8_t *answer, uint64_t answer_len);

@@ -101,6 +101,11 @@ static void reaction_tight(void)
     code = krossvil_reaction_tight(table, table_len, 1, 1, answer, sizeof answer);
 }
 
+static void reaction_tight_moves(void)
+{
+    code = krossvil_reaction_tight_moves(chain, sizeof chain, UINT32_MAX, UINT32_MAX, KROSSVIL_MOVES_MAX, answer, sizeof answer);
+}
+
 static void convert_table(void)
 {
     code = krossvil_convert_table(table, table_len, new_table, sizeof new_table, answer, sizeof answer);
@@ -218,6 +223,7 @@ int main(void)
     make_chain();
     passed += measure("reaction_moves", reaction_moves, KROSSVIL_STACK);
     passed += measure("reaction_tight", reaction_tight, KROSSVIL_STACK);
+    passed += measure("reaction_tight_moves", reaction_tight_moves, KROSSVIL_STACK);
     passed += measure("convert_table", convert_table, KROSSVIL_STACK);
     for (int k = 0; k < 3; k++) {
         make_stamped(stamped_sizes[k]);

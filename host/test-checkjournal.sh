@@ -158,7 +158,7 @@ fresh
 cp "$root/examples/season/late.bin" journal.bin
 prints 'the late shift, with a tick at its end' 'accepted end=10 cycles=5 moves=3 state=1 output=1 left=2 longest=3'
 
-# ---- The journals that show two tight times to be least
+# ---- The journals that show tight times to be least
 
 fresh
 cp "$root/examples/tight-times/twelve/journal.bin" .
@@ -167,6 +167,10 @@ prints 'state 1 is left at 13, with input 0 present from 1 on' 'accepted end=13 
 fresh
 cp "$root/examples/tight-times/five/journal.bin" .
 prints 'state 0 is left at 6, with input 1 present from 1 on' 'accepted end=6 cycles=2 moves=1 state=1 output=1 left=0 longest=3'
+
+fresh
+cp "$root"/examples/back-to-idle/{table,journal}.bin .
+prints 'the mixer is idle at 59, with stop present from 2 on' 'accepted end=59 cycles=31 moves=5 state=0 output=0 left=30 longest=2'
 
 # ---- Tables with timers
 

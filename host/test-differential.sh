@@ -97,8 +97,8 @@ fi
 called=("$library")
 if [ "$self" = yes ]; then
     called=("$out/differential-second.o")
-    for entry in check_table check_journal run reaction reaction_moves reaction_tight convert_table read_stamped check_short shorten lengthen salvage report_add \
-        live watch; do
+    for entry in check_table check_journal run reaction reaction_moves reaction_tight reaction_tight_moves convert_table read_stamped check_short shorten lengthen salvage \
+        report_add live watch; do
         called+=("-Dkrossvil_$entry=second_$entry")
     done
 fi
@@ -321,6 +321,11 @@ tight 'time=6 target=2 tight=5' examples/tight-times/five/table.bin 3 2
 tight 'time=3 target=2 tight=3' examples/classroom/table.bin 2 2
 tight 'refused 10 at 2' examples/classroom/table.bin 2 1
 tight 'refused 14 at 0' examples/classroom-timers/table.bin 3 1
+tight 'time=61 target=1 tight=57' examples/back-to-idle/table.bin 31 1 3
+tight 'time=11 target=25 tight=9' examples/back-to-idle/table.bin 31 1 1
+tight 'time=2 target=31 tight=2' examples/back-to-idle/table.bin 31 1 0
+tight 'refused 32 at 0' examples/back-to-idle/table.bin 31 1 33
+tight 'refused 10 at 1' examples/back-to-idle/table.bin 1 2 3
 
 echo "== files and numbers that cannot be read"
 turns_down() { # LINE PROGRAM WORDS: with these words it prints nothing, says the line on the error stream and ends with 2
@@ -337,7 +342,7 @@ turns_down() { # LINE PROGRAM WORDS: with these words it prints nothing, says th
 class=examples/classroom/table.bin
 rm -f "$out/new.bin"
 for reader in 'example X X' "example $class X" 'check X X' "check $class X" 'convert X N' 'unstamp X N' 'shorten X X N' \
-    "shorten $class X N" 'salvage X X N' "salvage $class X N" 'season X' "season $class X" 'moves X 3 1 1' 'tight X 3 1'; do
+    "shorten $class X N" 'salvage X X N' "salvage $class X N" 'season X' "season $class X" 'moves X 3 1 1' 'tight X 3 1' 'tight X 3 1 1'; do
     read -ra words <<<"${reader/%N/$out/new.bin}"
     turns_down "$out cannot be read" "${words[@]/#X/$out}" # a folder
     turns_down "$out/none cannot be opened" "${words[@]/#X/$out/none}"
@@ -345,6 +350,7 @@ done
 for word in x '' 1x -1 ' 1' +1 4294967296; do
     turns_down "'$word' is not a number of 32 bits" tight "$class" "$word" 1
     turns_down "'$word' is not a number of 32 bits" tight "$class" 3 "$word"
+    turns_down "'$word' is not a number of 32 bits" tight "$class" 3 1 "$word"
     for at in 0 1 2; do
         numbers=(3 1 1)
         numbers[at]=$word

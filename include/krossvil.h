@@ -175,6 +175,7 @@ enum krossvil_refusal {
 #define KROSSVIL_REACTION_ANSWER 8u
 #define KROSSVIL_MOVES_ANSWER 12u
 #define KROSSVIL_TIGHT_ANSWER 12u
+#define KROSSVIL_TIGHT_MOVES_ANSWER 12u
 #define KROSSVIL_CONVERT_ANSWER 4u
 #define KROSSVIL_STAMPED_ANSWER 4u
 #define KROSSVIL_SHORT_ANSWER 28u
@@ -198,11 +199,11 @@ enum {
     /* krossvil_run, krossvil_read_stamped, krossvil_shorten and krossvil_lengthen: how many bytes were written */
     KROSSVIL_WRITTEN = 0,
 
-    /* krossvil_reaction, krossvil_reaction_moves and krossvil_reaction_tight */
+    /* krossvil_reaction, krossvil_reaction_moves, krossvil_reaction_tight and krossvil_reaction_tight_moves */
     KROSSVIL_REACTION_TIME = 0,
     KROSSVIL_REACTION_TARGET = 1, /* a set */
     KROSSVIL_MOVES_PATH = 2,      /* krossvil_reaction_moves: the path's length in bytes */
-    KROSSVIL_TIGHT_TIME = 2,      /* krossvil_reaction_tight */
+    KROSSVIL_TIGHT_TIME = 2,      /* krossvil_reaction_tight and krossvil_reaction_tight_moves */
 
     /* krossvil_convert_table: how many states have changed */
     KROSSVIL_CONVERT_CHANGED = 0,
@@ -311,6 +312,14 @@ static inline uint64_t krossvil_path_len(uint32_t moves)
  * `inputs`, and by 1 if none does. Nothing is said of shorter times: for some tables one of them would be enough. */
 uint64_t krossvil_reaction_tight(const uint8_t *table, uint64_t table_len, uint32_t states, uint32_t inputs,
                                  uint8_t *answer, uint64_t answer_len);
+
+/* The time and the target that krossvil_reaction_moves tells, and beside them the tight time over so many moves, 0 to 32, which is enough
+ * too. No sums and no path are written, so that 33 never comes; the other refusals are those of krossvil_reaction_moves. Answer, 12 bytes:
+ * the reaction time, the target set, the tight time. With no path the tight time is E. Otherwise it is E - 1 and the largest sum along a
+ * path of at most so many states, where a state counts hold + 2*E - 1 if it has a hold and delays an input of `inputs`, and E if not; so it
+ * is less than the reaction time. For one move it is that of krossvil_reaction_tight, and for none E. Nothing is said of shorter times. */
+uint64_t krossvil_reaction_tight_moves(const uint8_t *table, uint64_t table_len, uint32_t states, uint32_t inputs, uint32_t moves,
+                                       uint8_t *answer, uint64_t answer_len);
 
 /* For a table with holds that was made before there was 11. Write it at the start of `new_table`, with the delayed set emptied at
  * each state whose hold is 0, where it never had an effect: the new table has as many bytes, passes, and behaves the same in every

@@ -173,6 +173,12 @@ class Krossvil {
     return this.module.call('krossvil_reaction_tight', args, ['time', 'target', 'tight']);
   }
 
+  /** @param {Uint8Array} table @param {number} states @param {number} inputs @param {number} moves */
+  reactionTightMoves(table, states, inputs, moves) {
+    const args = [this.module.give('table', table), [states, inputs, Math.min(moves, 0xffffffff)]];
+    return this.module.call('krossvil_reaction_tight_moves', args, ['time', 'target', 'tight']);
+  }
+
   /**
    * Over several moves: sums[r][q], and one worst path as state, input, state .. state.
    * @param {Uint8Array} table @param {number} states @param {number} inputs @param {number} moves

@@ -327,6 +327,8 @@
  *            sums[r][q]; the path is state, input, state, input .. state
  * @property {(table: Uint8Array, states: number, inputs: number) =>
  *            {ok: true, time: number, target: number, tight: number} | Refused} reactionTight
+ * @property {(table: Uint8Array, states: number, inputs: number, moves: number) =>
+ *            {ok: true, time: number, target: number, tight: number} | Refused} reactionTightMoves
  * @property {(table: Uint8Array) => {ok: true, changed: number, bytes: Uint8Array} | Refused} convertTable
  * @property {(stamped: Uint8Array) => {ok: true, bytes: Uint8Array} | Refused} readStamped
  * @property {(table: Uint8Array, journal: Uint8Array) => {ok: true, bytes: Uint8Array} | Refused} shorten

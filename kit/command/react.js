@@ -87,6 +87,15 @@ export function reactionRefused(asking, source, table, question, answer) {
 }
 
 /**
+ * The answer over several moves, with the tight time beside the time.
+ * @param {import('../types.js').Library} library @param {Uint8Array} bytes @param {number} states @param {number} inputs @param {number} moves
+ */
+function overMoves(library, bytes, states, inputs, moves) {
+  const over = library.reactionMoves(bytes, states, inputs, moves);
+  return over.ok ? { ...over, ...library.reactionTightMoves(bytes, states, inputs, moves) } : over;
+}
+
+/**
  * The table, and what is asked of it by names; null if it is refused, which is then said.
  * @param {Asking} asking
  * @returns {{source: TableSource, table: Table, states: number, inputs: number, moves: number|undefined}|null}
@@ -112,7 +121,7 @@ export function react(asking) {
   const one = (/** @type {Question} */ question, /** @type {any} */ answer) => answerOne(asking, source, table, question, answer);
   const codes = [];
   if (options.tight) codes.push(one({ states, inputs }, library.reactionTight(source.bytes, states, inputs)));
-  if (moves !== undefined) codes.push(one({ states, inputs, moves }, library.reactionMoves(source.bytes, states, inputs, moves)));
+  if (moves !== undefined) codes.push(one({ states, inputs, moves }, overMoves(library, source.bytes, states, inputs, moves)));
   if (codes.length === 0) codes.push(one({ states, inputs }, library.reaction(source.bytes, states, inputs)));
   return Math.max(...codes);
 }

@@ -24,13 +24,13 @@ const FIRST = { inputs: 1, moves: 1 };
 const HAS_TIMERS = 14;
 
 /**
- * Of one move the tight time too, which is not calculated for more.
+ * Over so many moves, with the tight time beside the time.
  * @param {Library} library @param {Uint8Array} bytes @param {Question} question
  * @returns {any}
  */
 function ask(library, bytes, { states, inputs, moves }) {
   const over = library.reactionMoves(bytes, states, inputs, moves);
-  return over.ok && moves === 1 ? { ...over, ...library.reactionTight(bytes, states, inputs) } : over;
+  return over.ok ? { ...over, ...library.reactionTightMoves(bytes, states, inputs, moves) } : over;
 }
 
 /**

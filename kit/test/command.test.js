@@ -174,9 +174,10 @@ test('react over several moves, and tight', async () => {
   const cases = [
     ['classroom.kv --while no_train --tight', 0, 'time=14 tight=12 target=idle', /In whole units 12 is enough\./],
     ['classroom.kv --while train --tight', 0, 'time=6 tight=5 target=busy', /In whole units 5 is enough\./],
-    ['classroom.kv --while no_train --moves 0', 0, 'time=3 target=idle,busy moves=0', /There is no state outside the target/],
-    ['classroom.kv --while no_train --moves 1', 0, 'time=14 target=idle moves=1', /The longest wait is in 'busy'\./],
-    ['watchdog.kv --while silence --moves 2', 0, 'time=17 target=alarm moves=2', /The longest way: 'quiet' under 'silence' to 'watch'\./],
+    ['classroom.kv --while no_train --moves 0', 0, 'time=3 tight=3 target=idle,busy moves=0', /There is no state outside the target/],
+    ['classroom.kv --while no_train --moves 1', 0, 'time=14 tight=12 target=idle moves=1', /The longest wait is in 'busy'\./],
+    ['watchdog.kv --while silence --moves 2', 0, 'time=17 tight=15 target=alarm moves=2',
+      /In whole units 15 is enough\.\s+The longest way: 'quiet' under 'silence' to 'watch'\./],
     ['classroom.kv --moves 33', 1, 'refused 32 at 0', /33 moves were asked for; at most 32/],
     ['classroom.kv --moves 4294967295', 1, 'refused 32 at 0', /4,294,967,295 moves were asked for/],
     ['classroom.kv --from idle --while train --moves 2', 1, 'refused 10 at 1', /leads to 'busy', which is not among them/],
@@ -191,7 +192,7 @@ test('react over several moves, and tight', async () => {
   }
   const both = await ask(['react', 'watchdog.kv', '--while', 'silence', '--moves', '2', '--tight', '--json'], FILES);
   assert.deepEqual(both.lines, [{ answer: 'accepted', time: 4, tight: 3, target: ['watch', 'alarm'] },
-    { answer: 'accepted', time: 17, target: ['alarm'], sums: [[2, 13, 0], [15, 13, 0]], moves: 2, path: ['quiet', 'silence', 'watch'] }]);
+    { answer: 'accepted', time: 17, tight: 15, target: ['alarm'], sums: [[2, 13, 0], [15, 13, 0]], moves: 2, path: ['quiet', 'silence', 'watch'] }]);
   assert.equal((await ask(['react', 'classroom.kv', '--tight', '--moves', '33'], FILES)).code, 1);
 });
 

@@ -151,6 +151,15 @@ test('the tight time', () => {
   assert.deepEqual(library.reactionTight(table, 3, 4), { ok: false, number: 9, place: 1 });
 });
 
+test('the tight time over several moves', () => {
+  const mixer = file('back-to-idle/table.bin');
+  assert.deepEqual(library.reactionTightMoves(mixer, 31, 1, 3), { ok: true, time: 61, target: 1, tight: 57 });
+  assert.deepEqual(library.reactionTightMoves(mixer, 31, 1, 0), { ok: true, time: 2, target: 31, tight: 2 });
+  assert.deepEqual(library.reactionTightMoves(mixer, 31, 1, 33), { ok: false, number: 32, place: 0 });
+  assert.deepEqual(library.reactionTightMoves(mixer, 1, 2, 0), { ok: false, number: 10, place: 1 });
+  assert.deepEqual(library.reactionTightMoves(file('gas-burner/table.bin'), 1, 1, 2), { ok: false, number: 14, place: 0 });
+});
+
 test('of one move, tight and several moves say what the calculator says: 3,000 questions', () => {
   const chance = new Chance(3);
   const numbers = new Set();
@@ -161,7 +170,8 @@ test('of one move, tight and several moves say what the calculator says: 3,000 q
     const one = library.reaction(bytes, states, inputs);
     const { tight, ...timed } = library.reactionTight(bytes, states, inputs);
     const { sums, path, ...moved } = library.reactionMoves(bytes, states, inputs, 1);
-    assert.deepEqual([timed, moved], [one, one]);
+    const over = library.reactionTightMoves(bytes, states, inputs, 1);
+    assert.deepEqual([timed, moved, over], [one, one, library.reactionTight(bytes, states, inputs)]);
     if (one.ok) assert.ok(tight <= one.time && tight >= one.time - 2 && sums.length === 1 && path.length <= 1);
     numbers.add(one.number ?? 0);
   }

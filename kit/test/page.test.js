@@ -309,14 +309,15 @@ test('several moves are asked for, and the worst path is lit', async (t) => {
         const { time, path } = library.reactionMoves(tableOf(name), states, inputs, moves);
         const said = await askReaction(tab, { states, inputs, moves });
         assert.match(said, new RegExp(`^at most ${time}(tight|until)`), `${name} ${inputs} ${moves}`);
-        assert.equal(/tight/.test(said), moves === 1);
+        const { tight } = library.reactionTightMoves(tableOf(name), states, inputs, moves);
+        assert.ok(said.startsWith(`at most ${time}tight ${tight}, in whole units`), `${name} ${inputs} ${moves}`);
         assert.deepEqual(await litPath(tab), ofPath(path), `${name} ${inputs} ${moves}`);
       }
     }
   }
   const tab = await open(t, 'example=watchdog');
   assert.match(await askReaction(tab, { states: 7, inputs: 2, moves: 2 }),
-    /^at most 17until: alarm.* at most 17 over 2 moves until .*The longest way: 'quiet' under 'silence' to 'watch'\.$/);
+    /^at most 17tight 15, in whole unitsuntil: alarm.* at most 17 over 2 moves until .*The longest way: 'quiet' under 'silence' to 'watch'\.$/);
   assert.deepEqual(await litPath(tab), { states: ['0', '1'], edges: ['01'] });
 });
 

@@ -176,6 +176,10 @@ WRAP(krossvil_watch, (TAKES(table), uint32_t *live, uint64_t live_len, TAKES(inp
 #ifdef HAS_krossvil_reaction_tight
 REACTS(krossvil_reaction_tight)
 #endif
+#ifdef HAS_krossvil_reaction_tight_moves
+WRAP(krossvil_reaction_tight_moves, (TAKES(table), uint32_t states, uint32_t inputs, uint32_t moves, FILLS(answer)),
+     (BYTES(table), states, inputs, moves, BYTES(answer)), TABLE, give_number(states), give_number(inputs), give_number(moves), ANSWER)
+#endif
 #ifdef HAS_krossvil_reaction_moves
 WRAP(krossvil_reaction_moves,
      (TAKES(table), uint32_t states, uint32_t inputs, uint32_t moves, uint32_t *sums, uint64_t sums_len, FILLS(path), FILLS(answer)),

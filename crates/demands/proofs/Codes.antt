@@ -23,7 +23,10 @@ use Rattle.moves.specs.Moves.{judgeOf, reactionOver, movesOf}
 use Rattle.tight.specs.declared.Answer as tight′
 use Rattle.tight.specs.declared.Answer.the-variants as tight
 use Rattle.tight.specs.Answer as tight-answer
+use Rattle.tight.specs.declared.over_moves.Over as over′
+use Rattle.tight.specs.declared.over_moves.Over.the-variants as over
 use Rattle.tight.specs.Tight.{reactTightOf}
+use Rattle.tight.specs.Several.{tightMovesOf}
 use Rattle.report.specs.Report.{mostJournals}
 use Rattle.report.specs.Rows.{placesOf}
 use Rattle.krossvil.specs.Host.{told, codeOf, madeTold, roomFor, afterCheck, reportTold}
@@ -31,7 +34,7 @@ use Rattle.krossvil.specs.Small.{Fits}
 use Rattle.krossvil.proofs.TablePlaces.{table-fits}
 use Rattle.krossvil.proofs.Places.{journal-fits, short-fits, reaction-fits}
 use Rattle.krossvil.proofs.Several.{judge-fits}
-use Rattle.krossvil.proofs.Tights.{tight-fits}
+use Rattle.krossvil.proofs.Tights.{tight-fits, over-fits}
 use Rattle.krossvil.proofs.Writers.{Writer, said}
 use Rattle.krossvil.proofs.Runs.{run-writer}
 use Rattle.krossvil.proofs.Converts.{convert-writer}
@@ -43,7 +46,7 @@ use Rattle.krossvil.proofs.Reports.{report-numbered}
 use Rattle.krossvil.proofs.Lives.{live-writer, watch-says, watch-fits}
 use Rattle.demands.specs.Codes.{ReadsBack, EveryCodeReadsBack}
 use Rattle.live.specs.Live.{watchOf}
-use Rattle.demands.proofs.Entries.{moves-numbered}
+use Rattle.demands.proofs.Entries.{judged-numbered, moves-numbered}
 use Rattle.demands.proofs.Live.{watch-numbered}
 
 -- ---- One reply
@@ -82,6 +85,10 @@ reaction-numbered (reacts.LeavesStates at) = refl
 tight-numbered : (a : tight′.Answer) → Numbered (tight-answer.replyOf a)
 tight-numbered (tight.Reacts time target tight) = tt
 tight-numbered (tight.Refused refusal) = reaction-numbered refusal
+
+over-numbered : (a : over′.Over) → Numbered (tight-answer.overReply a)
+over-numbered (over.Reacts time target tight) = tt
+over-numbered (over.Refused refusal) = judged-numbered refusal
 
 moves-fits : (table : List ℕ) (P A n sums path : ℕ) → Fits (moves.replyOf (movesOf table P A n sums path))
 unfolding movesOf
@@ -135,4 +142,7 @@ every-code-reads-back = (
   λ κs a r s p.
       let watched = watchOf (now (a .0)) (now (a .1 .0)) (now (a .1 .1 .0)) in
       told-back _ (watch-fits watched (watch-says (now (a .0)) (now (a .1 .0)) (now (a .1 .1 .0)))) (watch-numbered watched) _ r (p .0),
+  λ κs a r s p.
+      told-back _ (over-fits (now (a .0)) (a .1 .0) (a .1 .1 .0) (a .1 .1 .1 .0))
+      (over-numbered (tightMovesOf (now (a .0)) (a .1 .0) (a .1 .1 .0) (a .1 .1 .1 .0))) _ r (p .0),
 )

@@ -15,7 +15,7 @@ use Rattle.krossvil.proofs.Stamps.{stamped-writer}
 use Rattle.krossvil.proofs.Restates.{shorten-writer, lengthen-writer}
 use Rattle.krossvil.proofs.Salvages.{salvage-writer}
 use Rattle.krossvil.proofs.Reports.{report-numbered}
-use Rattle.krossvil.specs.Host.{codeOf, journalTold, shortTold, reactionTold, movesTold, tightTold, reportTold, liveTold, watchTold}
+use Rattle.krossvil.specs.Host.{codeOf, journalTold, shortTold, reactionTold, movesTold, tightTold, tightMovesTold, reportTold, liveTold, watchTold}
 use Rattle.laws.proofs.Never28.{never-differs}
 use Rattle.demands.specs.Contracts.{EveryEntryDetermines, EveryRefusalKeeps, RunNeverDiffers}
 use Rattle.live.specs.Answer as live-answer
@@ -90,6 +90,8 @@ every-entry-determines = (
         (p .0 ∙ sym (p′ .0), three (p .1 .1 .1 ∙ sym (p′ .1 .1 .1)) (p .1 .1 .0 ∙ sym (p′ .1 .1 .0)) (p .1 .0 ∙ sym (p′ .1 .0)));
   },
   record { asks-nothing = λ κs a. tt; one-outcome = λ κs a r r′ s s′ p p′. two-lent p p′ },
+  record { asks-nothing = λ κs a. tt; one-outcome = λ κs a r r′ s s′ p p′. (p ∙ sym p′, refl) },
+  record { asks-nothing = λ κs a. tt; one-outcome = λ κs a r r′ s s′ p p′. one-lent p p′ },
 )
 
 pub every-refusal-keeps : EveryRefusalKeeps
@@ -149,6 +151,9 @@ every-refusal-keeps = (
       let numbered = told-numbered _ (length answer) (watch-numbered (watchOf (now (a .0)) n (now (a .1 .1 .0)))) in
       let refused : codeOf told-as ≡ 0 → ⊥ = λ e. other (p .0 ∙ e) in
       two (p .1 .1 ∙ buffer-kept told-as numbered _ n refused) (p .1 .0 ∙ answer-kept told-as answer refused),
+  λ κs a r s p other.
+      let answer = now (a .1 .1 .1 .1 .0) in
+      told-kept (tightMovesTold (now (a .0)) (a .1 .0) (a .1 .1 .0) (a .1 .1 .1 .0) (length answer)) answer p other,
 )
 
 pub run-never-differs : RunNeverDiffers

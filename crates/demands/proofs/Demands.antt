@@ -178,7 +178,7 @@ pub accepted-not-too-late : NotTooLate
 accepted-not-too-late table journal t input records T j P A c target e = runs-not-too-late t P A c target (calculated j e) input records T (run j)
 
 -- Where several moves are answered, one move is.
-calculated-by : {t : Table} {P A n sums path : ℕ} → Fits t P A n sums path → Calculated t P A (reactionTime t P A) (nextSet t P A)
+pub calculated-by : {t : Table} {P A n sums path : ℕ} → Fits t P A n sums path → Calculated t P A (reactionTime t P A) (nextSet t P A)
 unfolding reactionOf
 calculated-by {t} {P} {A} ok = record {
   well-formed = ok .all .table;

@@ -72,7 +72,7 @@ host-kept w buffer answer owed other =
 
 -- ---- Several moves
 
-judged-numbered : (j : judged′.Judged) → Numbered (moves-answer.refusalOf j)
+pub judged-numbered : (j : judged′.Judged) → Numbered (moves-answer.refusalOf j)
 judged-numbered judged.Passes = tt
 judged-numbered (judged.TableRefused answer) = table-fine answer
 judged-numbered judged.HasTimers = refl

@@ -17,7 +17,7 @@ use Rattle.demands.proofs.Contracts.{every-entry-determines, every-refu
 use Rattle.demands.proofs.Calculators.{answer-means, entry-means, fourteen-comes, ten-comes}
 use Rattle.demands.proofs.Runs.{runs-not-too-soon, runs-not-too-soon-by, runs-not-too-late, runs-not-too-late-by-moves, runs-not-too-late-tight, runs-not-too-late-tight-by-moves}
 use Rattle.demands.proofs.Demands.{accepted-is-run, accepted-not-too-soon, accepted-not-too-soon-by, accepted-not-too-late, accepted-not-too-late-by-moves}
-use Rattle.demands.proofs.Tight.{tight-not-too-late}
+use Rattle.demands.proofs.Tight.{tight-not-too-late, tight-not-too-late-by-moves}
 
 pub the-demands : TheDemands
 the-demands = (
@@ -55,6 +55,7 @@ the-demands = (
     every-tight = runs-not-too-late-tight;
     journal-tight = tight-not-too-late;
     every-tight-moves = runs-not-too-late-tight-by-moves;
+    journal-tight-moves = tight-not-too-late-by-moves;
   },
   record {
     as-runtime = live-is-whole stimulus;

@@ -18,13 +18,15 @@ use Rattle.table.specs.Answer.{_or-else_, _and-then_}
 use Rattle.table.specs.Entries.{entriesFrom, values}
 use Rattle.table.specs.Encode.{words, timing, tableBytes}
 use Rattle.table.specs.Check.{expectedField, fieldAnswer, rowAnswer, below, setAnswer, countsAnswer, boundAnswer, holdsAnswer, tagged, timingAnswer, entriesAnswer}
-use Rattle.table.specs.Check.{answerBy, timersIn, tableWith}
+use Rattle.table.specs.declared.Answer.the-variants.{Passes}
+use Rattle.table.specs.Check.{answerBy, timersIn, tableWith, tableAnswer, tableIn}
 use Rattle.table.specs.Under.{underTable}
 use Rattle.table.proofs.WellFormed.{well-formed}
 use Rattle.records.specs.declared.Record.{Record}
 use Rattle.records.specs.declared.Record.the-variants.{End}
 use Rattle.records.specs.Form as form
 use Rattle.records.specs.Reading.{lengthFits, knownIn, knownWith, openingIn, openingWith, recordOf, ranged, recordIn, recordAt, itemsFrom, itemsOf}
+use Rattle.records.specs.Encode.{bytesOf, bytesFrom, encode}
 use Rattle.records.proofs.Written.{journal-recovers}
 use Rattle.records.proofs.Says.{keeps-all}
 use Rattle.machine.specs.declared.Machine.{Machine}
@@ -37,14 +39,20 @@ use Rattle.reaction.specs.Reaction.{nextSet, weightOf, reactionTime, firstFrom,
 use Rattle.runs.specs.Slots.{slot, inputAt, stateAt}
 use Rattle.tight.specs.declared.Answer.the-variants.{Reacts}
 use Rattle.tight.specs.Tight.{needOf, tightTime, reactTightOf}
+use Rattle.tight.specs.declared.over_moves.Over.the-variants as over
+use Rattle.tight.specs.Several.{tightWeight, tightTimeOver, roomForSums, roomForPath, timesOver, tightMovesOf}
+use Rattle.moves.specs.Moves.{nextTimes, worst, round, sumsOf, pathFrom, largestSum, worstStart, worstPath, judge, judgeOf, reactionOver}
 use Rattle.tight.proofs.Entry.{entry-gives}
+use Rattle.tight.proofs.Judged.{answered}
+use Rattle.moves.proofs.Fitting.{fits}
 use Rattle.laws.proofs.Journals.{ends-at, under}
 use Rattle.demands.specs.Runs.{StaysIn}
 use Rattle.demands.specs.Demands.{AcceptedJournal}
-use Rattle.demands.specs.Cases.{classroomTable, classroom}
-use Rattle.demands.specs.Tight.{TightNotTooLate, LongerIsEnough, TooShort, Least, recordsOfTwelve, journalOfTwelve, recordsOfFive, journalOfFive, LeastTimes}
-use Rattle.demands.proofs.Runs.{runs-not-too-late-tight}
-use Rattle.demands.proofs.Demands.{read, run, calculated}
+use Rattle.demands.specs.Cases.{classroomTable, classroom, journalBytes}
+use Rattle.demands.specs.Tight.{TightNotTooLate, TightNotTooLateByMoves, LongerIsEnough, Enough, TooShort, IsLeast, Least, LeastOver}
+use Rattle.demands.specs.Tight.{recordsOfTwelve, journalOfTwelve, recordsOfFive, journalOfFive, LeastTimes, mixerTable, recordsOfMixer, LeastOverMoves}
+use Rattle.demands.proofs.Runs.{runs-not-too-late-tight, runs-not-too-late-tight-by-moves}
+use Rattle.demands.proofs.Demands.{read, run, calculated, calculated-by}
 
 -- Slots that fulfil the premise for the longer time fulfil that for the shorter one, from later on.
 pub longer-is-enough : LongerIsEnough
@@ -59,6 +67,13 @@ pub tight-not-too-late : TightNotTooLate
 tight-not-too-late table P A time target tight e journal t input records T j =
     let given = entry-gives table P A time target tight e in
     rw (given .1, read j .1) (runs-not-too-late-tight t P A time target (calculated j (given .0)) input records T (run j))
+
+pub tight-not-too-late-by-moves : TightNotTooLateByMoves
+tight-not-too-late-by-moves table P A n time target tight e journal t input records T j =
+    let answer = answered table P A n time target tight e in
+    let same = read j .1 in
+    let ok = rw same at (fits table P A n roomForSums roomForPath (answer .passes)) in
+    rw (answer .target-is, answer .tight-is, same) (runs-not-too-late-tight-by-moves t P A _ _ (calculated-by ok) n input records T (run j))
 
 -- ---- A journal that the machine goes through
 
@@ -113,12 +128,10 @@ module _ (t : Table) (input : ℕ) (records : List Record) (P A s c : ℕ) where
 
 -- ---- Least
 
-least-of : (table : List ℕ) (P A time target tight : ℕ) (journal : List ℕ) (input : ℕ) (records : List Record) →
-    reactTightOf table P A ≡ Reacts time target tight → TooShort table journal input records P A target (tight - 1) →
-    Least table P A time target tight journal input records
-least-of table P A time target tight journal input records answer shown = record {
-  answer = answer;
-  enough = tight-not-too-late table P A time target tight answer;
+least-of : (table : List ℕ) (P A target tight : ℕ) (journal : List ℕ) (input : ℕ) (records : List Record) → Enough table P A target tight →
+    TooShort table journal input records P A target (tight - 1) → IsLeast table P A target tight journal input records
+least-of table P A target tight journal input records enough shown = record {
+  enough = enough;
   shown = shown;
   least = λ c l enough.
       let later = longer-is-enough table P A target c (tight - 1) (omega arith) enough in
@@ -126,25 +139,49 @@ least-of table P A time target tight journal input records answer shown = record
       ∙ later journal (shown .t) input records (shown .T) (shown .accepted) (shown .s) (shown .ends-later) (shown .stays-in));
 }
 
+one-least : (table : List ℕ) (P A time target tight : ℕ) (journal : List ℕ) (input : ℕ) (records : List Record) →
+    reactTightOf table P A ≡ Reacts time target tight → TooShort table journal input records P A target (tight - 1) →
+    Least table P A time target tight journal input records
+one-least table P A time target tight journal input records answer shown = record {
+  answer = answer;
+  is = least-of table P A target tight journal input records (tight-not-too-late table P A time target tight answer) shown;
+}
+
+over-least : (table : List ℕ) (P A n time target tight : ℕ) (journal : List ℕ) (input : ℕ) (records : List Record) →
+    tightMovesOf table P A n ≡ over.Reacts time target tight → TooShort table journal input records P A target (tight - 1) →
+    LeastOver table P A n time target tight journal input records
+over-least table P A n time target tight journal input records answer shown = record {
+  answer = answer;
+  is = least-of table P A target tight journal input records (tight-not-too-late-by-moves table P A n time target tight answer) shown;
+}
+
+-- What is left to look at, one journal at a time: its bytes, the machine's run over them, and its slots.
+shows : (t : Table) → WellFormed t → (journal : List ℕ) (P A target c s input : ℕ) (records : List Record) (last : Machine) → all-bytes journal ≡ true →
+    runOver form.journal t journal ≡ ran input records last → s + c < last .time →
+    some c (λ k. not (in-sets t input records P A s c (s + k))) ≡ false →
+    member target (stateAt t input records (s + c)) ≡ false → TooShort (tableBytes t) journal input records P A target c
+shows t ok journal P A target c s input records last bytes through later none out = record {
+  t = t;
+  T = last .time;
+  accepted = journal-accepted (tableBytes t) journal t input records last ok refl (are-bytes journal bytes) through;
+  s = s;
+  ends-later = later;
+  stays-in = looked-at t input records P A s c none;
+  outside = out;
+}
+
+passes-well : (t : Table) → tableAnswer (tableBytes t) ≡ Passes → tableIn (tableBytes t) ≡ t → WellFormed t
+passes-well t passes is = rw is at (well-formed (tableBytes t) passes)
+
 classroom-well-formed : WellFormed classroomTable
 unfolding field fieldAt _or-else_ _and-then_ entriesFrom values tableBytes words timing expectedField fieldAnswer rowAnswer below setAnswer tagged
     countsAnswer boundAnswer holdsAnswer timingAnswer entriesAnswer answerBy timersIn tableWith
-classroom-well-formed = well-formed classroom refl
+classroom-well-formed = passes-well classroomTable refl refl
 
--- What is left to look at, one journal at a time: its bytes, the machine's run over them, and its slots.
-shows : (journal : List ℕ) (P A target c s input : ℕ) (records : List Record) (last : Machine) → all-bytes journal ≡ true →
-    runOver form.journal classroomTable journal ≡ ran input records last → s + c < last .time →
-    some c (λ k. not (in-sets classroomTable input records P A s c (s + k))) ≡ false →
-    member target (stateAt classroomTable input records (s + c)) ≡ false → TooShort classroom journal input records P A target c
-shows journal P A target c s input records last bytes through later none out = record {
-  t = classroomTable;
-  T = last .time;
-  accepted = journal-accepted classroom journal classroomTable input records last classroom-well-formed refl (are-bytes journal bytes) through;
-  s = s;
-  ends-later = later;
-  stays-in = looked-at classroomTable input records P A s c none;
-  outside = out;
-}
+mixer-well-formed : WellFormed mixerTable
+unfolding field fieldAt _or-else_ _and-then_ entriesFrom values tableBytes words timing expectedField fieldAnswer rowAnswer below setAnswer tagged
+    countsAnswer boundAnswer holdsAnswer timingAnswer entriesAnswer answerBy timersIn tableWith
+mixer-well-formed = passes-well mixerTable refl refl
 
 pub least-times : LeastTimes
 unfolding field fieldAt some setOf largest _or-else_ _and-then_ entriesFrom values tableBytes words expectedField fieldAnswer rowAnswer below setAnswer tagged timing
@@ -152,6 +189,21 @@ unfolding field fieldAt some setOf largest _or-else_ _and-then_ entriesFrom valu
     ranged recordIn recordAt itemsFrom itemsOf ruleBy strongest largestOver rule verdict left regionsAfter stateAfter lastChange gate step walk
     recordsRun runOpened runOver nextSet weightOf reactionTime firstFrom firstLeaving reactionOf forHolds reactOf needOf tightTime reactTightOf slot all-bytes
 least-times = (
-  least-of classroom 3 1 _ _ _ journalOfTwelve 1 recordsOfTwelve refl (shows journalOfTwelve 3 1 _ _ 1 1 recordsOfTwelve _ refl refl (lit< tt) refl refl),
-  least-of classroom 3 2 _ _ _ journalOfFive 0 recordsOfFive refl (shows journalOfFive 3 2 _ _ 1 0 recordsOfFive _ refl refl (lit< tt) refl refl),
+  one-least classroom 3 1 _ _ _ journalOfTwelve 1 recordsOfTwelve refl
+  (shows classroomTable classroom-well-formed journalOfTwelve 3 1 _ _ 1 1 recordsOfTwelve _ refl refl (lit< tt) refl refl),
+  one-least classroom 3 2 _ _ _ journalOfFive 0 recordsOfFive refl
+  (shows classroomTable classroom-well-formed journalOfFive 3 2 _ _ 1 0 recordsOfFive _ refl refl (lit< tt) refl refl),
 )
+
+abbrev mixed : List Record
+mixed = recordsOfMixer ++ End 59 ∷ []
+
+pub least-over-moves : LeastOverMoves
+unfolding field fieldAt some setOf largest _or-else_ _and-then_ entriesFrom values tableBytes words expectedField fieldAnswer rowAnswer below setAnswer tagged timing
+    countsAnswer boundAnswer holdsAnswer timingAnswer entriesAnswer answerBy timersIn tableWith underTable lengthFits knownIn knownWith openingIn openingWith recordOf
+    ranged recordIn recordAt itemsFrom itemsOf ruleBy strongest largestOver rule verdict left regionsAfter stateAfter lastChange gate step walk
+    recordsRun runOpened runOver nextSet weightOf firstFrom firstLeaving forHolds bytesOf bytesFrom encode nextTimes round sumsOf largestSum worst worstStart pathFrom
+    worstPath judge judgeOf reactionOver tightWeight tightTimeOver timesOver tightMovesOf slot all-bytes
+least-over-moves =
+    over-least (tableBytes mixerTable) 31 1 3 _ _ _ (journalBytes 1 recordsOfMixer 59) 1 mixed refl
+    (shows mixerTable mixer-well-formed (journalBytes 1 recordsOfMixer 59) 31 1 _ _ 2 1 mixed _ refl refl (lit< tt) refl refl)

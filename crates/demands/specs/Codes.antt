@@ -10,9 +10,9 @@ use Rattle.wire.specs.Reply.{Reply, gives, numberIn, placeIn}
 use Rattle.table.specs.Answer as table
 use Rattle.table.specs.Check.{tableAnswer}
 use Rattle.krossvil.specs.Host.{journalTold, shortTold, runTold, reactionTold, movesTold, convertTold, stampedTold, shortenTold, lengthenTold}
-use Rattle.krossvil.specs.Host.{tightTold, salvageTold, reportTold, liveTold, watchTold}
+use Rattle.krossvil.specs.Host.{tightTold, tightMovesTold, salvageTold, reportTold, liveTold, watchTold}
 use Rattle.demands.specs.Entries.{Contract, tableInC, journalInC, runInC, reactionInC, movesInC, converterInC, stampedInC, shortInC}
-use Rattle.demands.specs.Entries.{shortenerInC, lengthenerInC, tightInC, salvagerInC, reportInC, liveInC, watchInC}
+use Rattle.demands.specs.Entries.{shortenerInC, lengthenerInC, tightInC, salvagerInC, reportInC, liveInC, watchInC, tightOverInC}
 
 -- The high half is the number and the low half the place, both 0 for a success; and 0 as a whole is a success and nothing else.
 pub record ReadsBack (code : ℕ) (reply : Reply) : Type 0 where
@@ -25,7 +25,7 @@ abbrev pub CodeReadsBack : (C : Contract) → ((κs : Lfts (C .lifetimes)) → C
 CodeReadsBack C code reply = (κs : Lfts (C .lifetimes)) (a : C .Args κs) (r : C .Result κs) (s : C .Exit κs) → C .Post κs a r s →
     ReadsBack (code κs r) (reply κs a)
 
--- So it is with each of the fifteen functions for C.
+-- So it is with each of the sixteen functions for C.
 abbrev pub EveryCodeReadsBack : Type 0
 EveryCodeReadsBack =
     CodeReadsBack tableInC (λ κs r. r) (λ κs a. table.replyOf (tableAnswer (now (a .0))))
@@ -47,3 +47,5 @@ EveryCodeReadsBack =
     × CodeReadsBack liveInC (λ κs r. r)
     (λ κs a. liveTold (now (a .0)) (now (a .1 .0)) (now (a .1 .1 .0)) (now (a .1 .1 .1 .0)) (length (now (a .1 .1 .1 .1 .0))))
     × CodeReadsBack watchInC (λ κs r. r) (λ κs a. watchTold (now (a .0)) (now (a .1 .0)) (now (a .1 .1 .0)) (length (now (a .1 .1 .1 .0))))
+    × CodeReadsBack tightOverInC (λ κs r. r)
+    (λ κs a. tightMovesTold (now (a .0)) (a .1 .0) (a .1 .1 .0) (a .1 .1 .1 .0) (length (now (a .1 .1 .1 .1 .0))))

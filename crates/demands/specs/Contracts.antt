@@ -13,7 +13,7 @@ use Rattle.restate.specs.Answer as restate-answer
 use Rattle.salvage.specs.Answer as salvage-answer
 use Rattle.live.specs.Answer as live-answer
 use Rattle.demands.specs.Entries.{Contract, tableCheck, journalCheck, runtimeRun, reactionReact, movesReact, converter, stampedReader, shortCheck, shortener, lengthener, tightReact, salvager, reportBegin, reportAdd}
-use Rattle.demands.specs.Entries.{liveTakes, liveWatches, liveLooks, liveInC, watchInC}
+use Rattle.demands.specs.Entries.{liveTakes, liveWatches, liveLooks, liveInC, watchInC, tightOver, tightOverInC}
 use Rattle.demands.specs.Entries.{tableInC, journalInC, runInC, reactionInC, movesInC, converterInC, stampedInC, shortInC, shortenerInC, lengthenerInC, tightInC, salvagerInC, reportInC}
 
 -- ---- Every answer is determined
@@ -33,6 +33,7 @@ EveryEntryDetermines =
     × Determines stampedInC × Determines shortInC × Determines shortenerInC × Determines lengthenerInC × Determines tightInC × Determines salvagerInC
     × Determines reportInC
     × Determines liveTakes × Determines liveWatches × Determines liveLooks × Determines liveInC × Determines watchInC
+    × Determines tightOver × Determines tightOverInC
 
 -- ---- A refusal changes no lent byte
 
@@ -55,6 +56,7 @@ EveryRefusalKeeps =
     × RefusalKeeps reportInC (λ κs r. r)
     × RefusalKeeps liveTakes (λ κs r. numberIn (live-answer.replyOf r)) × RefusalKeeps liveWatches (λ κs r. numberIn (live-answer.watchReply r))
     × RefusalKeeps liveInC (λ κs r. r) × RefusalKeeps watchInC (λ κs r. r)
+    × RefusalKeeps tightOverInC (λ κs r. r)
 
 -- ---- The runtime never gives 28
 

@@ -28,6 +28,8 @@ use Rattle.restate.proofs.lengthen.Kinds as lengthen-kinds
 use Rattle.restate.proofs.lengthen.Reads as lengthen
 use Rattle.tight.proofs.react.Kinds as tight-kinds
 use Rattle.tight.proofs.react.Reads as tight
+use Rattle.tight.proofs.over_moves.react.Kinds as over-kinds
+use Rattle.tight.proofs.over_moves.react.Reads as over
 use Rattle.salvage.proofs.salvage.Kinds as salvage-kinds
 use Rattle.salvage.proofs.salvage.Reads as salvage
 use Rattle.report.proofs.begin.Kinds as begin-kinds
@@ -66,6 +68,8 @@ use Rattle.krossvil.proofs.reacting.krossvil_reaction_moves.Kinds as c-moves-ki
 use Rattle.krossvil.proofs.reacting.krossvil_reaction_moves.Reads as c-moves
 use Rattle.krossvil.proofs.reacting.krossvil_reaction_tight.Kinds as c-tight-kinds
 use Rattle.krossvil.proofs.reacting.krossvil_reaction_tight.Reads as c-tight
+use Rattle.krossvil.proofs.reacting.krossvil_reaction_tight_moves.Kinds as c-over-kinds
+use Rattle.krossvil.proofs.reacting.krossvil_reaction_tight_moves.Reads as c-over
 use Rattle.krossvil.proofs.salvaging.krossvil_salvage.Kinds as c-salvage-kinds
 use Rattle.krossvil.proofs.salvaging.krossvil_salvage.Reads as c-salvage
 use Rattle.krossvil.proofs.reporting.krossvil_report_add.Kinds as c-report-kinds
@@ -220,3 +224,12 @@ abbrev pub watchInC : Contract
 watchInC =
     entry 4 c-watch-kinds.ps c-watch-kinds.r c-watch.Pre c-watch.Post
     (λ κs a. now (a .1 .0) ∷ now (a .1 .1 .1 .0) ∷ []) (λ κs s. now (s .1 .0) ∷ now (s .1 .1 .1 .0) ∷ [])
+
+-- Tight times over several moves.
+abbrev pub tightOver : Contract
+tightOver = entry 1 over-kinds.ps over-kinds.r over.Pre over.Post (λ κs a. []) (λ κs s. [])
+
+abbrev pub tightOverInC : Contract
+tightOverInC =
+    entry 2 c-over-kinds.ps c-over-kinds.r c-over.Pre c-over.Post
+    (λ κs a. now (a .1 .1 .1 .1 .0) ∷ []) (λ κs s. now (s .1 .1 .1 .1 .0) ∷ [])

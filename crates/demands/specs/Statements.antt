@@ -13,7 +13,7 @@ use Rattle.demands.specs.Contracts.{EveryEntryDetermines, EveryRefusalKe
 use Rattle.demands.specs.Calculators.{AnswerMeans, EntryMeans, FourteenComes, TenComes}
 use Rattle.demands.specs.Runs.{RunsNotTooSoon, RunsNotTooSoonBy, RunsNotTooLate, RunsNotTooLateByMoves, RunsNotTooLateTight, RunsNotTooLateTightByMoves}
 use Rattle.demands.specs.Demands.{AcceptedIsRun, NotTooSoon, NotTooSoonBy, NotTooLate, NotTooLateByMoves}
-use Rattle.demands.specs.Tight.{TightNotTooLate}
+use Rattle.demands.specs.Tight.{TightNotTooLate, TightNotTooLateByMoves}
 
 -- 1. There is always an answer.
 pub record Answered : Type 0 where
@@ -80,6 +80,7 @@ pub record Kept : Type 0 where
   pub journal-tight : TightNotTooLate
   -- .. and with that for several moves.
   pub every-tight-moves : RunsNotTooLateTightByMoves
+  pub journal-tight-moves : TightNotTooLateByMoves
 
 -- And all of it one record at a time, in a memory that the host keeps: docs/RULES.md, "Live runs".
 pub record OneAtATime : Type 0 where

@@ -59,7 +59,7 @@ judge-fits table P A n sums path =
         go false false false false is true = record { number = omega arith; place = omega arith }
         go false false false false is false = record { number = omega arith; place = omega arith }
 
-judged-none : (j : Judged) → valuesIn (refusalOf j) ≡ []
+pub judged-none : (j : Judged) → valuesIn (refusalOf j) ≡ []
 judged-none Passes = refl
 judged-none (TableRefused refusal) = table-none refusal
 judged-none HasTimers = refl

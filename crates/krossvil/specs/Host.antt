@@ -40,6 +40,7 @@ use Rattle.moves.specs.Answer as moves
 use Rattle.moves.specs.Moves.{movesOf, sumsAfter, pathAfter}
 use Rattle.tight.specs.Answer as tight
 use Rattle.tight.specs.Tight.{reactTightOf}
+use Rattle.tight.specs.Several.{tightMovesOf}
 
 -- What the host is told of a reply with an answer buffer of so many bytes: 30 at 0 if it is too short for the numbers, four bytes each.
 -- That comes last, and a refusal has no numbers.
@@ -110,6 +111,9 @@ lengthenTold table bytes = madeTold restate.replyOf restated.BufferTooShort (len
 
 abbrev pub tightTold : List ℕ → ℕ → ℕ → ℕ → Reply
 tightTold table P A room = told (tight.replyOf (reactTightOf table P A)) room
+
+abbrev pub tightMovesTold : List ℕ → ℕ → ℕ → ℕ → ℕ → Reply
+tightMovesTold table P A n room = told (tight.overReply (tightMovesOf table P A n)) room
 
 abbrev pub salvageTold : List ℕ → List ℕ → List ℕ → ℕ → Reply
 salvageTold table records = madeTold salvage.replyOf salvaged.BufferTooShort (salvageOf table records)

@@ -1,7 +1,7 @@
-// Reaction times: for one move, over several, and the tight one.
+// Reaction times: for one move, over several, and the tight ones.
 ghost use mathlib.Core.Path.{_≡_};
 ghost use lib.ListN.{length};
-ghost use Rattle.krossvil.specs.Host.{codeOf, answerAfter, reactionTold, movesTold, movesSums, movesPath, tightTold};
+ghost use Rattle.krossvil.specs.Host.{codeOf, answerAfter, reactionTold, movesTold, movesSums, movesPath, tightTold, tightMovesTold};
 use crate::telling::code;
 use crate::telling::tell;
 
@@ -74,5 +74,29 @@ pub extern "C" fn krossvil_reaction_tight(
             tell(&numbers, answer)
         }
         tight::Answer::Refused(refusal) => code(refusal.number(), refusal.place()),
+    }
+}
+
+#[no_mangle]
+pub extern "C" fn krossvil_reaction_tight_moves(
+    table: &[u8],
+    states: u32,
+    inputs: u32,
+    moves: u32,
+    answer: &mut [u8],
+) -> u64
+    ensures code { λ r. ⌜ r ≡ codeOf (tightMovesTold (now (table .entry)) states inputs moves (length (now (answer .entry)))) ⌝ }
+    ensures bytes { λ _. ⌜ now (answer .exit) ≡ answerAfter (tightMovesTold (now (table .entry)) states inputs moves (length (now (answer .entry)))) (now (answer .entry)) ⌝ }
+{
+    match tight::over_moves::react(table, states, inputs, moves) {
+        tight::over_moves::Over::Reacts {
+            time,
+            target,
+            tight,
+        } => {
+            let times = [time, target, tight];
+            tell(&times, answer)
+        }
+        tight::over_moves::Over::Refused(refusal) => code(refusal.number(), refusal.place()),
     }
 }

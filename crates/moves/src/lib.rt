@@ -86,7 +86,7 @@ pub enum Answer {
 }
 
 // Of each of the states the set of its next states; 0 for every other state.
-fn images_of(s: &[u8], from: usize, width: u32, states: u32, inputs: u32) -> Row
+pub fn images_of(s: &[u8], from: usize, width: u32, states: u32, inputs: u32) -> Row
     requires { ⌜ Walkable (now s) from width states inputs ⌝ }
     ensures { λ r. ⌜ HasImages (nextOf (tableIn (now (s .entry)))) states inputs r ⌝ }
 {
@@ -117,7 +117,7 @@ fn united(sets: &Row, states: u32) -> u32
 }
 
 // What comes of the states by so many moves.
-fn next_times(images: &Row, states: u32, moves: u32) -> u32
+pub fn next_times(images: &Row, states: u32, moves: u32) -> u32
     ensures { λ r. ⌜ UnitesTimes (now (images .entry)) states moves r ⌝ }
 {
     let mut set = states;
@@ -130,7 +130,7 @@ fn next_times(images: &Row, states: u32, moves: u32) -> u32
 }
 
 // The weights of the states on a path; 0 for every other state.
-fn path_weights(s: &[u8], holds: usize, delayed: usize, bound: u32, states: u32, inputs: u32) -> Row
+pub fn path_weights(s: &[u8], holds: usize, delayed: usize, bound: u32, states: u32, inputs: u32) -> Row
     requires { ⌜ Weighable (now s) holds delayed bound × Known (tableIn (now s) .states) states ⌝ }
     ensures { λ r. ⌜ HasWeights (tableIn (now (s .entry))) states inputs r ⌝ }
 {

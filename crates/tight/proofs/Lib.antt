@@ -2,3 +2,8 @@ pub mod Time
 pub mod Entry
 pub mod Below
 pub mod Several
+pub mod Largest
+pub mod Along
+pub mod Sums
+pub mod Times
+pub mod Judged

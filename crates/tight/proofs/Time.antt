@@ -44,7 +44,7 @@ module _ (t : Table) (A p : ℕ) where
 
 -- The need of a state by its weight.
 module _ (t : Table) (A : ℕ) (some-bound : 1 ≤ t .bound) where
-  at-least : (p : ℕ) → (t .bound ≤ weight t A p) × (t .bound ≤ needOf t A p)
+  pub at-least : (p : ℕ) → (t .bound ≤ weight t A p) × (t .bound ≤ needOf t A p)
   at-least p = go (fromHold t A p) refl
     where
       go : (b : Bool) → fromHold t A p ≡ b → (t .bound ≤ weight t A p) × (t .bound ≤ needOf t A p)

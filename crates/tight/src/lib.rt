@@ -6,6 +6,8 @@ ghost use Rattle.tight.specs.Tight.{reactTightOf};
 ghost use Rattle.tight.specs.Below.{tightened};
 use wire::number32;
 
+pub mod over_moves;
+
 // The time, the target and the tight time, or what the calculator turns down.
 pub enum Answer {
     Reacts { time: u32, target: u32, tight: u32 },

@@ -6,7 +6,7 @@ Every number is that of the proved library, libkrossvil. Bytes go in; a small da
 from ._answers import Accepted, Added, Converted, MovesReaction, Reaction, Salvaged, Step, Table, TightReaction, Written
 from ._frames import frame
 from ._functions import check_journal, check_short, check_table, convert_table, lengthen, live, reaction, reaction_moves
-from ._functions import reaction_tight, read_stamped, report_add, run, salvage, shorten, watch
+from ._functions import reaction_tight, reaction_tight_moves, read_stamped, report_add, run, salvage, shorten, watch
 from ._header import VERSION as __version__
 from ._header import Refusal
 from ._live import LiveRun
@@ -16,7 +16,7 @@ from ._report import Report
 
 __all__ = [
     *("check_journal", "check_short", "check_table", "convert_table", "lengthen", "live", "reaction", "reaction_moves"),
-    *("reaction_tight", "read_stamped", "report_add", "run", "salvage", "shorten", "watch"),
+    *("reaction_tight", "reaction_tight_moves", "read_stamped", "report_add", "run", "salvage", "shorten", "watch"),
     *("Accepted", "Added", "Converted", "MovesReaction", "Reaction", "Salvaged", "Step", "Table", "TightReaction", "Written"),
     *("LiveRun", "Record", "Refusal", "Refused", "Report", "frame", "journal", "records"),
     "__version__",

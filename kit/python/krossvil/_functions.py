@@ -92,6 +92,12 @@ def reaction_tight(table: Bytes, states: int, inputs: int) -> TightReaction:
     return TightReaction(*_answer("reaction_tight", 3, taken(table), number32(states), number32(inputs)))
 
 
+def reaction_tight_moves(table: Bytes, states: int, inputs: int, moves: int) -> TightReaction:
+    """The time over several moves, and the one that is tight in whole units."""
+    sets = number32(states), number32(inputs), number32(moves)
+    return TightReaction(*_answer("reaction_tight_moves", 3, taken(table), *sets))
+
+
 def reaction_moves(table: Bytes, states: int, inputs: int, moves: int) -> MovesReaction:
     """The same over several moves."""
     given = taken(table)

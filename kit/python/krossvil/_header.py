@@ -104,6 +104,7 @@ FUNCTIONS: Dict[str, Tuple[str, ...]] = {
     "reaction": ("const uint8_t *", "uint32_t", "uint32_t", "uint8_t *"),
     "reaction_moves": ("const uint8_t *", "uint32_t", "uint32_t", "uint32_t", "uint32_t *", "uint8_t *", "uint8_t *"),
     "reaction_tight": ("const uint8_t *", "uint32_t", "uint32_t", "uint8_t *"),
+    "reaction_tight_moves": ("const uint8_t *", "uint32_t", "uint32_t", "uint32_t", "uint8_t *"),
     "convert_table": ("const uint8_t *", "uint8_t *", "uint8_t *"),
     "read_stamped": ("const uint8_t *", "uint8_t *", "uint8_t *"),
     "check_short": ("const uint8_t *", "const uint8_t *", "uint8_t *"),

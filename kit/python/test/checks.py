@@ -201,7 +201,7 @@ class Arrays(Trying):
 
 class Sets(Trying):
     def test_numbers_that_do_not_fit_are_turned_down_and_not_cut(self):
-        for name in ("reaction", "reaction_tight", "reaction_moves"):
+        for name in ("reaction", "reaction_tight", "reaction_tight_moves", "reaction_moves"):
             for place in range(1, len(CALLS[name]())):
                 for wrong in (-1, 2**32, 2**32 + 1, 2**64 + 1):
                     given = CALLS[name]()
@@ -215,6 +215,7 @@ class Sets(Trying):
         self.refuses(9, 1, "reaction_tight", TABLE, 3, 2**32 - 1)
         self.refuses(32, 0, "reaction_moves", TABLE, 3, 1, 2**32 - 1)
         self.refuses(32, 0, "reaction_moves", TABLE, 3, 1, 33)
+        self.refuses(32, 0, "reaction_tight_moves", TABLE, 3, 1, 33)
         self.assertEqual(len(krossvil.reaction_moves(TABLE, 3, 1, 32).sums), 32)
 
 

@@ -37,6 +37,7 @@ FAULTS: Dict[str, List[Tuple[str, str, str]]] = {
             '"reaction", 2, taken(table), number32(inputs), number32(states)',
         ),
         ("_functions.py", '"reaction_tight", 3,', '"reaction", 3,'),
+        ("_functions.py", "*_answer(\"reaction_tight_moves\", 3, taken(table), *sets)", "*_answer(\"reaction_tight\", 3, taken(table), *sets[:2])"),
         ("_functions.py", "columns = given[_STATES]", "columns = given[_INPUTS]"),
         ("_functions.py", "tuple(path[:length])", "tuple(path[:])"),
         ("_functions.py", 'struct.unpack(f">{count}I", answer)', 'struct.unpack(f">{count}I", answer)[::-1]'),

@@ -27,6 +27,7 @@ CALLS: Dict[str, Callable[[], List[Any]]] = {
     "run": lambda: [TABLE, STIMULUS],
     "reaction": lambda: [TABLE, 3, 1],
     "reaction_tight": lambda: [TABLE, 3, 1],
+    "reaction_tight_moves": lambda: [TABLE, 3, 1, 2],
     "reaction_moves": lambda: [TABLE, 3, 1, 2],
     "convert_table": lambda: [OLD_TABLE],
     "read_stamped": lambda: [STAMPED],

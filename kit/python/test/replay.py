@@ -135,7 +135,7 @@ def answer_of(call: Call) -> Any:
         sums, states = array("I", lent[1].after), first[3]
         rows = tuple(tuple(sums[row * states : (row + 1) * states]) for row in range(call.arguments[3]))
         return (*numbers[:2], rows, tuple(lent[2].after[: numbers[2]]))
-    return tuple(numbers[: {"reaction": 2, "reaction_tight": 3}[call.name]])
+    return tuple(numbers[: {"reaction": 2, "reaction_tight": 3, "reaction_tight_moves": 3}[call.name]])
 
 
 # ---- All of them
