@@ -16,12 +16,12 @@ use Rattle.wire.proofs.Standing.{stands-true}
 use Rattle.wire.proofs.Bytes.{byte-written, rest-written, number-written, field-written, byte-read, number-read, field-read}
 use Rattle.table.specs.declared.Answer.{Answer}
 use Rattle.table.specs.declared.Answer.the-variants.{Passes}
-use Rattle.table.specs.Entries.{entriesFrom, values, filledTo, zeros}
+use Rattle.table.specs.Entries.{values, filledTo, zeros}
 use Rattle.table.specs.Check.{fieldAnswer, rowAnswer, below, byteEntry, wordEntry}
 use Rattle.table.specs.Table.{Uses}
 use Rattle.table.specs.Encode.{words}
 use Rattle.table.proofs.Answers.{goes-on}
-use Rattle.table.proofs.Rows.{stands-as-expected, is-below}
+use Rattle.table.proofs.Rows.{stands-as-expected, each-pass, is-below}
 use Rattle.table.proofs.Words.{length-words, words-append}
 use Rattle.table.proofs.Values.{length-values, getD-filled, filled-uses}
 
@@ -82,11 +82,6 @@ module _ (s rest array : List ℕ) (at tag n : ℕ) (room : n ≤ length array) 
 
 pub field-passes : (s : List ℕ) (at tag size : ℕ) → WholeAt s at tag size → fieldAnswer s at tag size ≡ Passes
 field-passes s at tag size whole = sym (stands-as-expected s at tag size (stands-true size tag tag s at tag whole (omega arith) (omega arith)))
-
-each-pass : (entry : ℕ → Answer) (n i : ℕ) → ((k : ℕ) → k < i + n → entry k ≡ Passes) → Passes ≡ entriesFrom entry n i
-unfolding entriesFrom
-each-pass entry zero i h = refl
-each-pass entry (suc n) i h = goes-on (h i (omega arith)) (each-pass entry n (i + 1) (λ k l. h k (omega arith)))
 
 pub same-array : (n size : ℕ) (a b : List ℕ) → Uses n size a → Uses n size b → ((k : ℕ) → k < n → getD a k 0 ≡ getD b k 0) → a ≡ b
 same-array n size a b in-a in-b same = ext-getD 0 a b (in-a .places ∙ sym (in-b .places)) (λ k l. each k (k <? n) refl)

@@ -38,6 +38,18 @@ same-in (suc k) x y hx hy e =
 pub same-members : (x y : ℕ) → ((i : ℕ) → member x i ≡ true → member y i ≡ true) → ((i : ℕ) → member y i ≡ true → member x i ≡ true) → x ≡ y
 same-members x y f g = same-in (x + y) x y (omega arith) (omega arith) (λ i. same-test (member x i) (member y i) (f i) (g i))
 
+contained-in : (k x y : ℕ) → x ≤ k → ((i : ℕ) → member x i ≡ true → member y i ≡ true) → x ≤ y
+contained-in zero x y h f = omega arith
+contained-in (suc k) x y h f = go (even-or-odd x) (contained-in k (x / 2) (y / 2) (omega arith) (λ i m. sym (member-suc y i) ∙ f (suc i) (member-suc x i ∙ m)))
+  where
+    go : (x % 2 ≡ 0) ⊎ (x % 2 ≡ 1) → x / 2 ≤ y / 2 → x ≤ y
+    go (inl e) l = omega arith
+    go (inr e) l = let odd : y % 2 ≡ 1 = eqb-true (y % 2) 1 (sym (member-zero y) ∙ f 0 (member-zero x ∙ rw e)) in omega arith
+
+-- A set whose members are all in another is no larger number.
+pub contained : (x y : ℕ) → ((i : ℕ) → member x i ≡ true → member y i ≡ true) → x ≤ y
+contained x y f = contained-in x x y (omega arith) f
+
 -- A set is below 2 ^ n exactly when each of its members is below n; else it has a member from n on.
 pub member-below : (set n i : ℕ) → set < 2 ^ n → member set i ≡ true → i < n
 member-below set n i h m = go (leb n i) refl

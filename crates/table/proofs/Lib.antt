@@ -1,5 +1,6 @@
 pub mod Answers
 pub mod Rows
+pub mod AtOnce
 pub mod Values
 pub mod Words
 pub mod Stands

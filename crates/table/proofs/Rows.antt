@@ -2,6 +2,7 @@
 use mathlib.Core.Path.{_≡_, refl, sym, ap, _∙_}
 use mathlib.Core.List.{List, [], _∷_}
 use mathlib.Core.Bool.{Bool, true, false, not, _&&_, _||_}
+use mathlib.Core.Logic.{_⊎_, inl, inr}
 use Prim.Native.Nat.{ℕ, zero, suc, _+_, _-_, _*_, _/_, _^_, _<_, _≤_}
 use native.Mathlib.Nat.{not-suc-le-zero}
 use native.Mathlib.Omega.{arith}
@@ -80,6 +81,11 @@ field-stands s at tag size e = go (fieldAt s at) refl e
 
 -- ---- Entries in order
 
+pub each-pass : (entry : ℕ → Answer) (n i : ℕ) → ((k : ℕ) → k < i + n → entry k ≡ Passes) → Passes ≡ entriesFrom entry n i
+unfolding entriesFrom
+each-pass entry zero i h = refl
+each-pass entry (suc n) i h = goes-on (h i (omega arith)) (each-pass entry n (i + 1) (λ k l. h k (omega arith)))
+
 -- The field stands, and the answer from entry k on is the whole row's.
 pub record Checking (s : List ℕ) (at tag size : ℕ) (entry : ℕ → Answer) (n k : ℕ) : Type 0 where
   pub room : at + 3 + size ≤ length s
@@ -95,6 +101,10 @@ module _ (s : List ℕ) (at tag size : ℕ) (entry : ℕ → Answer) (n : ℕ) (
   none-checked h =
       let e : n - 0 ≡ n = omega arith in
       record { room = field-stands s at tag size (let-pass is h) .fits; here = rw e (past is h refl) }
+
+  pub all-good : Passed a → ((k : ℕ) → k < n → entry k ≡ Passes) → Passes ≡ rowAnswer s at tag size entry n
+  unfolding rowAnswer
+  all-good h each = past is h (each-pass entry n 0 (λ k l. each k (omega arith)))
 
 module _ {s : List ℕ} {at tag size : ℕ} {entry : ℕ → Answer} {n k : ℕ} (inv : Checking s at tag size entry n k) where
   pub all-checked : n ≤ k → Passes ≡ rowAnswer s at tag size entry n
@@ -239,6 +249,22 @@ tagged-there s at e = go (length s - at <? 3) refl e
         at + 3 ≤ length s
     go true is t = absurd (never t)
     go false is t = let l = ltb-false (length s - at) 3 is in omega arith
+
+tag-there : (s : List ℕ) (at : ℕ) → tagged (fieldAt s at) ≡ true → byteAt s at ≡ 0x07
+unfolding tagged
+tag-there s at e = go (fieldAt s at) refl e
+  where
+    go : (f : Field) → fieldAt s at ≡ f → tagged f ≡ true → byteAt s at ≡ 0x07
+    go RunOut is t = never t
+    go (Whole tag size) is t = whole-at s at tag size is .tag-is ∙ eqb-true tag 0x07 t
+
+pub no-tag : (s : List ℕ) (at : ℕ) → (length s ≤ at) ⊎ (byteAt s at ≡ 0x07 → ⊥) → false ≡ tagged (fieldAt s at)
+no-tag s at h = go (tagged (fieldAt s at)) refl h
+  where
+    go : (b : Bool) → tagged (fieldAt s at) ≡ b → (length s ≤ at) ⊎ (byteAt s at ≡ 0x07 → ⊥) → false ≡ tagged (fieldAt s at)
+    go false e k = sym e
+    go true e (inl short) = absurd (let l = tagged-there s at e in let z : ⊥ = omega arith in z)
+    go true e (inr other) = absurd (other (tag-there s at e))
 
 pub untagged : (s : List ℕ) (at : ℕ) (f : Field) → f ≡ fieldAt s at → OneOf (1 ∷ []) (tagOf FieldT.the-type f) → false ≡ tagged (fieldAt s at)
 unfolding tagged

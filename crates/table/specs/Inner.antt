@@ -1,12 +1,14 @@
 -- What the inner functions of the table check are told and find, which go by places and tags: a helper of contracts, no rule.
 use mathlib.Core.Path.{_≡_}
+use mathlib.Core.List.{List}
 use Prim.Native.Nat.{ℕ, _*_, _≤_}
 use Rattle.wire.specs.Choice.{_=?_, if_then_else_}
+use Rattle.sets.specs.Sets.{member, some}
 use Rattle.table.specs.declared.Answer.{Answer}
 use Rattle.table.specs.declared.Answer.the-variants.{EntryOutOfRange, HoldTooLong, UnknownMember}
 use Rattle.table.specs.declared.Counts.{Counts}
 use Rattle.table.specs.declared.Places.{Places}
-use Rattle.table.specs.Check.{Row, nextField, holdField, delayedField, tableEnd}
+use Rattle.table.specs.Check.{Row, wordEntry, nextField, holdField, delayedField, tableEnd}
 
 -- Where the fields start, by the counts of field 01.
 pub record PlacesOf (c : Counts) (p : Places) : Type 0 where
@@ -26,3 +28,11 @@ badWord tag place = if tag =? 0x05 then HoldTooLong place else UnknownMember pla
 
 abbrev pub wordRow : (at tag n limit : ℕ) → Row
 wordRow at tag n limit = record { at = at; tag = tag; entries = n; limit = limit; otherwise = badWord tag }
+
+-- The set of a state whose hold is 0, where `holds` and `at` are the places of the two fields; else the empty set.
+abbrev pub idleSet : List ℕ → (holds at state : ℕ) → ℕ
+idleSet s holds at state = if wordEntry s holds state =? 0 then wordEntry s at state else 0
+
+-- The members of all of the first n sets together.
+abbrev pub UnionOf : (n : ℕ) → (ℕ → ℕ) → ℕ → Type 0
+UnionOf n sets all = (i : ℕ) → member all i ≡ some n (λ k. member (sets k) i)

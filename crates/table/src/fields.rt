@@ -1,13 +1,17 @@
 // One field of a table: whether it stands where it should, and whether its entries are what they may be.
 ghost use mathlib.Core.Path.{_≡_};
-ghost use Prim.Native.Nat.{_+_, _*_, _<_, _≤_};
+ghost use mathlib.Core.Bool.{true, _&&_};
+ghost use Prim.Native.Nat.{_+_, _*_, _<_, _≤_, max};
 ghost use lib.ListN.{length};
+ghost use Rattle.wire.specs.Choice.{_<?_, _≤?_, _=?_, if_then_else_};
 ghost use Rattle.wire.specs.Field.{number32At};
-ghost use Rattle.table.specs.Check.{fieldAnswer, bytesAnswer, wordsAnswer, setAnswer, setsAnswer, timerAnswer, timersRow};
-ghost use Rattle.table.specs.Inner.{byteRow, badWord, wordRow};
+ghost use Rattle.sets.specs.Sets.{largest};
+ghost use Rattle.table.specs.Check.{fieldAnswer, byteEntry, wordEntry, bytesAnswer, wordsAnswer, setAnswer, setsAnswer, timerAnswer, timersRow};
+ghost use Rattle.table.specs.Inner.{byteRow, badWord, wordRow, idleSet, UnionOf};
 use super::Answer;
 use super::LONGEST_HOLD;
 use super::or_else;
+use sets::union;
 use wire::Field;
 use wire::number32;
 use wire::stands;
@@ -27,7 +31,38 @@ pub fn expect_field(s: &[u8], at: usize, tag: u8, size: usize) -> Answer
     Answer::WrongTagOrLength(at)
 }
 
-// A field of n entries of one byte, each below the limit.
+fn larger_byte(a: u8, b: u8) -> u8
+    ensures { λ r. ⌜ r ≡ max a b ⌝ }
+{
+    if a < b { b } else { a }
+}
+
+// The largest of the n entries. No way leads out of the loop, so that the compiler takes many of them at a time.
+fn largest_byte(s: &[u8], at: usize, n: usize) -> u8
+    requires { ⌜ at + 3 + n ≤ length (now s) ⌝ }
+    ensures { λ r. ⌜ r ≡ largest n (λ _. true) (byteEntry (now (s .entry)) at) ⌝ }
+{
+    let mut top = 0u8;
+    let mut k = 0;
+    while k < n {
+        top = larger_byte(top, s[at + 3 + k]);
+        k += 1;
+    }
+    top
+}
+
+// Whether the largest of many entries tells at once that each is below the limit. A few are sooner looked at one by one.
+fn all_below(s: &[u8], at: usize, n: usize, limit: u8) -> bool
+    requires { ⌜ at + 3 + n ≤ length (now s) ⌝ }
+    ensures { λ r. ⌜ r ≡ ((8 ≤? n) && (largest n (λ _. true) (byteEntry (now (s .entry)) at) <? limit)) ⌝ }
+{
+    if n < 8 {
+        return false;
+    }
+    largest_byte(s, at, n) < limit
+}
+
+// A field of n entries of one byte, each below the limit. They are gone through one by one only where they are few, or one is not.
 pub fn check_bytes(s: &[u8], at: usize, tag: u8, n: usize, limit: u8) -> Answer
     requires { ⌜ (at ≤ length (now s)) × (n ≤ 1024) ⌝ }
     ensures { λ r. ⌜ r ≡ bytesAnswer (now (s .entry)) (byteRow at tag n limit) ⌝ }
@@ -36,6 +71,9 @@ pub fn check_bytes(s: &[u8], at: usize, tag: u8, n: usize, limit: u8) -> Answer
     let Answer::Passes = stands else {
         return stands;
     };
+    if all_below(s, at, n, limit) {
+        return Answer::Passes;
+    }
     let mut k = 0;
     while k < n {
         let place = at + 3 + k;
@@ -92,7 +130,36 @@ fn check_set(s: &[u8], hold: usize, place: usize, limit: u64, old: bool) -> Answ
     )
 }
 
-// Delayed sets: a field of n entries of four bytes, beside the field of holds.
+// What is delayed in any state, and what is in any whose hold is 0.
+struct Delayed {
+    any: u32,
+    idle: u32,
+}
+
+fn set_if_idle(hold: u32, set: u32) -> u32
+    ensures { λ r. ⌜ r ≡ (if hold =? 0 then set else 0) ⌝ }
+{
+    if hold == 0 { set } else { 0 }
+}
+
+fn all_delayed(s: &[u8], holds: usize, at: usize, n: usize) -> Delayed
+    requires { ⌜ (holds + 3 + 4 * n ≤ length (now s)) × (at + 3 + 4 * n ≤ length (now s)) ⌝ }
+    ensures any { λ r. ⌜ UnionOf n (wordEntry (now (s .entry)) at) (r .any) ⌝ }
+    ensures idle { λ r. ⌜ UnionOf n (idleSet (now (s .entry)) holds at) (r .idle) ⌝ }
+{
+    let mut any = 0;
+    let mut idle = 0;
+    let mut k = 0;
+    while k < n {
+        let set = number32(s, at + 3 + 4 * k);
+        any = union(set, any);
+        idle = union(set_if_idle(number32(s, holds + 3 + 4 * k), set), idle);
+        k += 1;
+    }
+    Delayed { any, idle }
+}
+
+// Delayed sets: a field of n entries of four bytes, beside the field of holds. They are gone through one by one only where one is bad.
 pub fn check_sets(s: &[u8], holds: usize, at: usize, n: usize, limit: u64, old: bool) -> Answer
     requires { ⌜ (holds + 3 + 4 * n ≤ at) × (at ≤ length (now s)) × (n ≤ 32) ⌝ }
     ensures { λ r. ⌜ r ≡ setsAnswer old (now (s .entry)) holds at n limit ⌝ }
@@ -101,6 +168,10 @@ pub fn check_sets(s: &[u8], holds: usize, at: usize, n: usize, limit: u64, old: 
     let Answer::Passes = stands else {
         return stands;
     };
+    let sets = all_delayed(s, holds, at, n);
+    if ((sets.any as u64) < limit) & (old | (sets.idle == 0)) {
+        return Answer::Passes;
+    }
     let mut k = 0;
     while k < n {
         let set = check_set(s, holds + 3 + 4 * k, at + 3 + 4 * k, limit, old);

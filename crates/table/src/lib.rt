@@ -271,11 +271,17 @@ fn check_timer_sets(s: &[u8], c: Counts, at: usize, n: usize) -> Answer
     or_else(s.len() <= end, Answer::BytesAfter(end))
 }
 
-// Whether field 07 stands at `at`, whole.
+// Whether field 07 stands at `at`, whole. Most tables have holds, and there the tag tells.
 fn timed(s: &[u8], at: usize) -> bool
     requires { ⌜ at ≤ length (now s) ⌝ }
     ensures { λ r. ⌜ r ≡ tagged (fieldAt (now (s .entry)) at) ⌝ }
 {
+    if s.len() <= at {
+        return false;
+    }
+    if s[at] != 0x07 {
+        return false;
+    }
     let field = wire::read_field(s, at);
     let Field::Whole { tag, .. } = field else {
         return false;
