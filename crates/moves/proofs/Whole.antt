@@ -266,19 +266,19 @@ unfolding largestSum sumsOf
 nothing t P A N = le-zero (largest-at-most (t .states) (offTarget P N) _ 0 (λ q on. rw (getD-zeros (t .states) q) (omega arith)))
 
 module _ (t : Table) (P A n : ℕ) where
-  pub no-moves : n ≡ 0 → (sums path : List ℕ) →
-      (record { time = t .bound; target = P; length = 0 } ≡ reactionOver t P A n) × (sums ≡ sumsOver t P A n sums) × (path ≡ pathOver t P A n path)
+  pub no-moves : {E : ℕ} → E ≡ t .bound → n ≡ 0 → (sums path : List ℕ) →
+      (record { time = E; target = P; length = 0 } ≡ reactionOver t P A n) × (sums ≡ sumsOver t P A n sums) × (path ≡ pathOver t P A n path)
   unfolding reactionOver sumsOver pathOver nextTimes rows worstPath
-  no-moves e sums path = rw (e, none, zero-mul (t .states)) (ap (λ time. record { time = time; target = P; length = 0 }) (sym (add-zero (t .bound))), refl, refl)
+  no-moves bound e sums path = rw (bound, e, none, zero-mul (t .states)) (ap (λ time. record { time = time; target = P; length = 0 }) (sym (add-zero (t .bound))), refl, refl)
     where
       none : largestSum t P A P (weight t A) 0 ≡ 0
       none = nothing t P A P
 
   module _ (N : ℕ) (target : N ≡ nextTimes t P A n) where
-    pub reaction-is : {sum size : ℕ} → sum ≡ largestSum t P A N (weight t A) n → size ≡ length (worstPath t P A N (weight t A) n) →
-        record { time = t .bound + sum; target = N; length = size } ≡ reactionOver t P A n
+    pub reaction-is : {E sum size : ℕ} → E ≡ t .bound → sum ≡ largestSum t P A N (weight t A) n → size ≡ length (worstPath t P A N (weight t A) n) →
+        record { time = E + sum; target = N; length = size } ≡ reactionOver t P A n
     unfolding reactionOver
-    reaction-is e f = rw (e, f, target)
+    reaction-is bound e f = rw (bound, e, f, target)
 
     pub sums-are : (before : List ℕ) {after : List ℕ} → after ≡ rows t P A N (weight t A) n ++ drop (n * t .states) before → after ≡ sumsOver t P A n before
     unfolding sumsOver

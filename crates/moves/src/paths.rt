@@ -3,7 +3,6 @@ ghost use mathlib.Core.Path.{_≡_};
 ghost use mathlib.Core.Bool.{true};
 ghost use Prim.Native.Nat.{_+_, _*_, _<_, _≤_};
 ghost use lib.ListN.{length};
-ghost use Rattle.wire.specs.Choice.{_=?_, if_then_else_};
 ghost use Rattle.wire.specs.Encode.{placedIn};
 ghost use Rattle.sets.specs.Sets.{member};
 ghost use Rattle.table.specs.Table.{nextOf};

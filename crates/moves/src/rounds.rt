@@ -1,6 +1,5 @@
 // The largest sums, round by round.
 ghost use mathlib.Core.Path.{_≡_};
-ghost use mathlib.Core.Bool.{true};
 ghost use Prim.Native.Nat.{ℕ, _+_, _*_, _<_, _≤_};
 ghost use lib.ListN.{length, getD};
 ghost use Rattle.wire.specs.Choice.{_<?_, if_then_else_};
@@ -9,7 +8,6 @@ ghost use Rattle.table.specs.Entries.{filledTo};
 ghost use Rattle.table.specs.Table.{nextOf};
 ghost use Rattle.table.specs.Check.{tableIn};
 ghost use Rattle.moves.specs.Walks.{PlaceForEach, WayIn, ImagesAmong, WorstMember, aheadStored, sumStored, sumFromStored, heaviest, SumsFit};
-use reaction::Row;
 use rows::next_in;
 use sets::take_smallest;
 
@@ -20,6 +18,9 @@ pub struct Way {
     pub inputs: u32,
     pub states: u32,
 }
+
+// A number or a set for each state.
+pub type Row = [u32; 32];
 
 // The largest sum of several, and the smallest member that has it.
 pub struct Most {

@@ -1,5 +1,5 @@
 -- The entry on bytes: where the table passes and has holds, the answer means what it should; with timers it is 14.
-use mathlib.Core.Path.{_≡_, refl, sym, _∙_}
+use mathlib.Core.Path.{_≡_, refl, sym, ap, _∙_}
 use mathlib.Core.Bool.{Bool, true, false, not}
 use mathlib.Core.List.{List}
 use Prim.Native.Nat.{ℕ, zero, suc, _*_, _^_}
@@ -29,6 +29,10 @@ module _ {A : Type 0} (timers : A) (under : Table → A) (t : Table) where
   pub has-timers : (t .timers ≡ 0 → ⊥) → forHolds timers under t ≡ timers
   unfolding forHolds
   has-timers other = rw (ne-eqb (t .timers) 0 other)
+
+-- What was tested with a count that was read is so of the table's.
+pub limit : (n m set : ℕ) {b : Bool} → n ≡ m → b ≡ (set <? 2 ^ n) → (set <? 2 ^ m) ≡ b
+limit n m set e is = ap (λ k. set <? 2 ^ k) (sym e) ∙ sym is
 
 -- An entry that is what is made under a table, by what the table's check answered.
 module _ {A : Type 0} (refused : table.Answer → A) (under : Table → A) (s : List ℕ) (entry : A) (on : entry ≡ underTable refused under s)

@@ -3,9 +3,11 @@ use mathlib.Core.Path.{_≡_, refl, sym, _∙_}
 use mathlib.Core.Bool.{Bool, true, false}
 use mathlib.Core.List.{List}
 use mathlib.Core.Logic.{_⊎_, inl, inr, ⊎-elim}
-use Prim.Native.Nat.{ℕ, _<_}
+use Prim.Native.Nat.{ℕ, _+_, _*_, _<_}
 use native.Mathlib.Omega.{arith}
+use lib.ListN.{length}
 use borrow.Author.Tests.{eq-eqb, eqb-true, not-true}
+use Rattle.wire.specs.Field.{byteAt}
 use Rattle.wire.proofs.Choice.{never, both, either, or-first, or-second}
 use Rattle.sets.specs.Sets.{member, Single, Union, Difference, TakesSmallest}
 use Rattle.sets.proofs.Bits.{none-in-empty}
@@ -16,8 +18,20 @@ use Rattle.table.specs.Table.{nextOf}
 use Rattle.table.specs.Check.{tableIn}
 use Rattle.table.proofs.WellFormed.{well-formed}
 use Rattle.rows.specs.Layouts.{NextRows}
+use Rattle.rows.proofs.InPlace.{row-before, states-are, inputs-are, fifth, next-at}
 use Rattle.reaction.specs.Meaning.{Pairs, Comes, NextStates}
 use Rattle.reaction.specs.Walks.{From, Image, SomeLeaves, FirstLeaving}
+
+-- Where a next state stands, in a row that starts `place` behind the first.
+pub in-row : (s : List ℕ) {from width : ℕ} → NextRows s from width → (q a place : ℕ) → q < tableIn s .states → a < width → place ≡ q * width + 0 →
+    (from + place + a < length s) × (byteAt s (from + place + a) ≡ nextOf (tableIn s) q a)
+in-row s rows q a place low few is =
+    let passes = rows .passes in
+    let wide = rows .wide ∙ inputs-are s passes in
+    let h = rw (states-are s passes) at low in
+    let l = rw wide at few in
+    let at = rw wide at is in
+    (omega (arith, rows .starts, at, row-before q _ _ a h l, fifth s passes), next-at s passes q a _ h l (omega (arith, rows .starts, at)))
 
 -- A next state is one of 32.
 pub below-32 : (s : List ℕ) {from width : ℕ} → NextRows s from width → (q a : ℕ) → q < tableIn s .states → a < width → nextOf (tableIn s) q a < 32
@@ -31,7 +45,7 @@ comes-also : {next : ℕ → ℕ → ℕ} {One Pair : ℕ → ℕ → Type 0} �
 comes-also also c = record { state = c .state; input = c .input; pair = also (c .state) (c .input) (c .pair); is = c .is }
 
 module _ {next : ℕ → ℕ → ℕ} where
-  pub nothing : {Pair : ℕ → ℕ → Type 0} → ((p a : ℕ) → Pair p a → ⊥) → Image next Pair 0
+  nothing : {Pair : ℕ → ℕ → Type 0} → ((p a : ℕ) → Pair p a → ⊥) → Image next Pair 0
   nothing none = record {
     has = λ p a h. absurd (none p a h);
     only = λ q m. never (sym (none-in-empty q) ∙ m);
@@ -43,7 +57,7 @@ module _ {next : ℕ → ℕ → ℕ} where
     only = λ q m. record { state = p; input = a; pair = (refl, refl); is = sym (eqb-true q (next p a) (sym (one q) ∙ m)) };
   }
 
-  pub same-pairs : {One Pair : ℕ → ℕ → Type 0} → ((p a : ℕ) → Pair p a → One p a) → ((p a : ℕ) → One p a → Pair p a) →
+  same-pairs : {One Pair : ℕ → ℕ → Type 0} → ((p a : ℕ) → Pair p a → One p a) → ((p a : ℕ) → One p a → Pair p a) →
       {set : ℕ} → Image next One set → Image next Pair set
   same-pairs to from x = record {
     has = λ p a h. x .has p a (to p a h);

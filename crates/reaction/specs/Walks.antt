@@ -13,7 +13,7 @@ use Rattle.rows.specs.Layouts.{NextRows}
 use Rattle.reaction.specs.declared.Gathered.{Gathered}
 use Rattle.reaction.specs.declared.Gathered.the-variants.{Inside, Leaves}
 use Rattle.reaction.specs.Reaction.{weightOf}
-use Rattle.reaction.specs.Meaning.{Known, Pairs, Comes, NextStates}
+use Rattle.reaction.specs.Meaning.{Known, Comes, NextStates}
 
 -- Rows of next states over which P and A can be walked: the table has such states and inputs.
 pub record Walkable (s : List ℕ) (from width P A : ℕ) : Type 0 where

@@ -23,9 +23,7 @@ use sets::union;
 use sets::within;
 use table::place_in_rows;
 use wire::larger;
-
-// A number for each state.
-pub type Row = [u32; 32];
+use wire::wide;
 
 // The time and the target, or what is turned down.
 pub enum Answer {
@@ -90,12 +88,13 @@ pub fn image_of(s: &[u8], from: usize, width: u32, inputs: u32, state: u32) -> u
     requires { ⌜ NextRows (now s) from width × Known width inputs × (state < tableIn (now s) .states) ⌝ }
     ensures { λ r. ⌜ Image (nextOf (tableIn (now (s .entry)))) (From state inputs) r ⌝ }
 {
+    let row = from + place_in_rows(width, state, 0);
     let mut rest = inputs;
     let mut image = 0;
     while rest != 0 {
         let taken = take_smallest(rest);
-        let next = next_in(s, from, width, state, taken.member);
-        image = union(image, single(next));
+        let at = row + (taken.member as usize);
+        image = union(image, single(wide(s[at])));
         rest = taken.rest;
     }
     image

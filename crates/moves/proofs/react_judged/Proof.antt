@@ -6,7 +6,6 @@ use native.Mathlib.Nat.{mul-le-mul}
 use native.Mathlib.Omega.{arith}
 use lib.ListN.{length, drop}
 use borrow.Author.Needs.{needs}
-use Rattle.wire.proofs.Choice.{both}
 use Rattle.table.specs.declared.Answer.the-variants as table
 use Rattle.table.specs.Check.{tableAnswer, tableIn}
 use Rattle.rows.specs.Layouts.{NextRows, LaidOut}
@@ -46,8 +45,8 @@ layout-of-requires c κs = passed (c .before .before .before)
 returns : tie.Need-returns
 returns c =
     let a = c .before .before .before .before .before .args in
-    let none = no-moves (tableIn (a .table .now)) (a .states) (a .inputs) (a .moves) (c .if1 .taken) (a .sums .now) (a .path .now) in
-    rw (laid (c .before) .bound) (none .0, (none .1, none .2))
+    let none = no-moves (tableIn (a .table .now)) (a .states) (a .inputs) (a .moves) (laid (c .before) .bound) (c .if1 .taken) (a .sums .now) (a .path .now) in
+    (none .0, (none .1, none .2))
 
 images-of-requires : tie.Need-images-of-requires
 images-of-requires c κs = record { rows = next-rows (c .before); states = fit (c .before) .all .states; inputs = known-inputs (c .before) }
@@ -166,7 +165,7 @@ returns-2 c =
     let sum = sum-is (f .all) _ _ _ _ (filled done) _ (rest .difference .ensures) (last-row done .0) found in
     let whole = whole-is (f .all) _ _ _ _ (filled done) _ (rest .difference .ensures) (last-row done .0) found _ (laid read .inputs) refl (laid read .states) in
     let written = c .before .before .before .before .write-path .ensures in (
-      rw (laid read .bound) (reaction-is _ _ _ _ _ target sum (written .0 ∙ ap length whole)),
+      reaction-is _ _ _ _ _ target (laid read .bound) sum (written .0 ∙ ap length whole),
       (sums-are _ _ _ _ _ target _ (filled done), path-is _ _ _ _ _ target _ whole (written .1)),
     )
 

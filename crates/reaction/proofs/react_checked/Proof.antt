@@ -1,6 +1,7 @@
 -- Each way out gives the computed answer: for 14 and 9 by what the test says, for the others by what the walks found.
-use mathlib.Core.Path.{_≡_, sym, _∙_}
+use mathlib.Core.Path.{_≡_, sym, ap, _∙_}
 use native.Mathlib.Omega.{arith}
+use Prim.Native.Nat.{_+_}
 use borrow.Author.Tests.{not-true, not-false}
 use borrow.Author.Needs.{needs}
 use Rattle.table.specs.Table.{WellFormed}
@@ -8,10 +9,10 @@ use Rattle.table.specs.Check.{tableIn}
 use Rattle.table.proofs.WellFormed.{well-formed}
 use Rattle.rows.specs.Layouts.{LaidOut}
 use Rattle.reaction.specs.declared.Answer.{Answer}
-use Rattle.reaction.specs.declared.Answer.the-variants.{HasTimers, UnknownState, UnknownInput}
+use Rattle.reaction.specs.declared.Answer.the-variants.{Reacts, HasTimers, UnknownState, UnknownInput}
 use Rattle.reaction.specs.Reaction.{reactionOf, forHolds}
 use Rattle.reaction.specs.Meaning.{Known}
-use Rattle.reaction.proofs.Entry.{has-holds, has-timers}
+use Rattle.reaction.proofs.Entry.{has-holds, has-timers, limit}
 use Rattle.reaction.proofs.Meaning.{AllExist, known, unknown, only-answer}
 use Rattle.reaction.proofs.Findings.{below, leaves-is, outside-known, time-fits, reacts-is}
 use Rattle.reaction.proofs.react_checked.Statement.{statement}
@@ -39,13 +40,13 @@ within-requires c κs = omega (arith, laid (c .before) .states, good (c .before)
 returns-2 : tie.Need-returns-2
 returns-2 c =
     let holds = c .before .before in
-    let no-state = unknown _ _ (rw (laid (holds .before) .states) at (sym (c .before .within .ensures) ∙ not-true _ (c .if2 .taken))) in
+    let no-state = unknown _ _ (limit _ _ _ (laid (holds .before) .states) (c .before .within .ensures) ∙ not-true _ (c .if2 .taken)) in
     with-holds holds _ (only-answer _ (good (holds .before)) _ _ UnknownState no-state)
 
 states-known : (c : tie.Else2) →
     let start = c .before .before .before .before .before .before .args in
     Known (tableIn (start .table .now) .states) (start .states)
-states-known c = known _ _ (rw (laid (c .before .before .before) .states) at (sym (c .before .within .ensures) ∙ not-false _ (c .if2 .left)))
+states-known c = known _ _ (limit _ _ _ (laid (c .before .before .before) .states) (c .before .within .ensures) ∙ not-false _ (c .if2 .left))
 
 within-requires-2 : tie.Need-within-requires-2
 within-requires-2 c κs = let read = c .before .before .before in omega (arith, laid read .inputs, good read)
@@ -53,7 +54,7 @@ within-requires-2 c κs = let read = c .before .before .before in omega (arith, 
 returns-3 : tie.Need-returns-3
 returns-3 c =
     let holds = c .before .before .before .before in
-    let no-input = unknown _ _ (rw (laid (holds .before) .inputs) at (sym (c .before .within2 .ensures) ∙ not-true _ (c .if3 .taken))) in
+    let no-input = unknown _ _ (limit _ _ _ (laid (holds .before) .inputs) (c .before .within2 .ensures) ∙ not-true _ (c .if3 .taken)) in
     with-holds holds _ (only-answer _ (good (holds .before)) _ _ UnknownInput (states-known (c .before .before), no-input))
 
 all : (c : tie.Else3) →
@@ -64,7 +65,7 @@ all c =
     record {
       table = good read;
       states = states-known (c .before .before);
-      inputs = known _ _ (rw (laid read .inputs) at (sym (c .before .within2 .ensures) ∙ not-false _ (c .if3 .left)));
+      inputs = known _ _ (limit _ _ _ (laid read .inputs) (c .before .within2 .ensures) ∙ not-false _ (c .if3 .left));
     }
 
 next-of-states-requires : tie.Need-next-of-states-requires
@@ -120,8 +121,8 @@ returns-5 c =
     let tested = inside .before .before .before in
     let holds = tested .before .before .before .before in
     let next = rw (inside .gathered .given .1) at (inside .before .before .next-of-states .ensures) in
-    rw (laid (holds .before) .bound)
-    (with-holds holds _ (reacts-is (all tested) _ _ (rest .difference .ensures) (c .before .largest-weight .ensures) next))
+    ap (λ E. Reacts (E + c .before .largest-weight .result) (inside .gathered .given .0 .0)) (laid (holds .before) .bound)
+    ∙ with-holds holds _ (reacts-is (all tested) _ _ (rest .difference .ensures) (c .before .largest-weight .ensures) next)
 
 pub react-checked-spec : {M : Type 1} → statement M
 react-checked-spec =

@@ -1,5 +1,4 @@
 -- Whether some input is delayed is what the two sets tell.
-use mathlib.Core.Path.{_∙_}
 use native.Mathlib.Omega.{arith}
 use borrow.Author.Needs.{needs}
 use Rattle.table.proofs.WellFormed.{well-formed}
