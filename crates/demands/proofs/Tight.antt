@@ -190,9 +190,9 @@ unfolding field fieldAt some setOf largest _or-else_ _and-then_ entriesFrom valu
     recordsRun runOpened runOver nextSet weightOf reactionTime firstFrom firstLeaving reactionOf forHolds reactOf needOf tightTime reactTightOf slot all-bytes
 least-times = (
   one-least classroom 3 1 _ _ _ journalOfTwelve 1 recordsOfTwelve refl
-  (shows classroomTable classroom-well-formed journalOfTwelve 3 1 _ _ 1 1 recordsOfTwelve _ refl refl (lit< tt) refl refl),
+      (shows classroomTable classroom-well-formed journalOfTwelve 3 1 _ _ 1 1 recordsOfTwelve _ refl refl (lit< tt) refl refl),
   one-least classroom 3 2 _ _ _ journalOfFive 0 recordsOfFive refl
-  (shows classroomTable classroom-well-formed journalOfFive 3 2 _ _ 1 0 recordsOfFive _ refl refl (lit< tt) refl refl),
+      (shows classroomTable classroom-well-formed journalOfFive 3 2 _ _ 1 0 recordsOfFive _ refl refl (lit< tt) refl refl),
 )
 
 abbrev mixed : List Record

@@ -130,7 +130,14 @@ pub fn next_times(images: &Row, states: u32, moves: u32) -> u32
 }
 
 // The weights of the states on a path; 0 for every other state.
-pub fn path_weights(s: &[u8], holds: usize, delayed: usize, bound: u32, states: u32, inputs: u32) -> Row
+pub fn path_weights(
+    s: &[u8],
+    holds: usize,
+    delayed: usize,
+    bound: u32,
+    states: u32,
+    inputs: u32,
+) -> Row
     requires { ⌜ Weighable (now s) holds delayed bound × Known (tableIn (now s) .states) states ⌝ }
     ensures { λ r. ⌜ HasWeights (tableIn (now (s .entry))) states inputs r ⌝ }
 {

@@ -28,6 +28,7 @@ pub enum Over {
 
 // Room for the sums and the path of 32 moves: with it nothing is turned down for want of room.
 const ROOM_FOR_SUMS: usize = 1024;
+
 const ROOM_FOR_PATH: usize = 63;
 
 // The largest number that the row has for a member; 0 where there is none.
@@ -136,14 +137,7 @@ fn react_judged(table: &[u8], states: u32, inputs: u32, moves: u32) -> Over
 pub fn react(table: &[u8], states: u32, inputs: u32, moves: u32) -> Over
     ensures { λ r. ⌜ r ≡ tightMovesOf (now (table .entry)) states inputs moves ⌝ }
 {
-    let judged = moves::judging::judge(
-        table,
-        states,
-        inputs,
-        moves,
-        ROOM_FOR_SUMS,
-        ROOM_FOR_PATH,
-    );
+    let judged = moves::judging::judge(table, states, inputs, moves, ROOM_FOR_SUMS, ROOM_FOR_PATH);
     let moves::Judged::Passes = judged else {
         return Over::Refused(judged);
     };
