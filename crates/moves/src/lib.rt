@@ -23,10 +23,12 @@ mod paths;
 mod rounds;
 
 use paths::write_path;
-use rounds::Row;
 use rounds::Way;
 use rounds::fill_sums;
 use rounds::worst_start;
+
+// A number or a set for each state.
+pub type Row = [u32; 32];
 
 // What is turned down before anything is written.
 pub enum Judged {

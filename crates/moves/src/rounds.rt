@@ -8,6 +8,7 @@ ghost use Rattle.table.specs.Entries.{filledTo};
 ghost use Rattle.table.specs.Table.{nextOf};
 ghost use Rattle.table.specs.Check.{tableIn};
 ghost use Rattle.moves.specs.Walks.{PlaceForEach, WayIn, ImagesAmong, WorstMember, aheadStored, sumStored, sumFromStored, heaviest, SumsFit};
+use super::Row;
 use rows::next_in;
 use sets::take_smallest;
 
@@ -18,9 +19,6 @@ pub struct Way {
     pub inputs: u32,
     pub states: u32,
 }
-
-// A number or a set for each state.
-pub type Row = [u32; 32];
 
 // The largest sum of several, and the smallest member that has it.
 pub struct Most {
