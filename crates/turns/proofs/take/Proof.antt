@@ -10,19 +10,19 @@ use Rattle.turns.proofs.take.Tie as tie
 
 change-requires : tie.Need-change-requires
 change-requires c κs =
-    let bound = c .before .before .before .before .before in
+    let bound = c .before .before .before in
     let pre = bound .before .before .before .pre in
-    (sane _ (pre .0) _ (pre .1), c .before .phase-matrix .ensures, rw (bound .bound-of .ensures) (good _ (pre .0) .bound .1))
+    (sane _ (pre .0) _ (pre .1), rw (bound .bound-of .ensures) (good _ (pre .0) .bound .1))
 
 end-requires : tie.Need-end-requires
 end-requires c κs =
-    let bound = c .before .before .before .before .before in
+    let bound = c .before .before .before in
     let pre = bound .before .before .before .pre in
-    (sane _ (pre .0) _ (pre .1), c .before .phase-matrix2 .ensures, rw (bound .bound-of .ensures) (good _ (pre .0) .bound .1))
+    (sane _ (pre .0) _ (pre .1), rw (bound .bound-of .ensures) (good _ (pre .0) .bound .1))
 
 returns : tie.Need-returns
 returns c =
-    let found = c .before .before .before .before .before in
+    let found = c .before .before .before in
     let bound = found .before .before in
     let start = bound .before .before .before in
     λ F valued. rw (found .found .given .1) (turns F _ (start .args .p) _ _ (change-complete _ _ _ _ _) _ refl _ refl _ (c .before .change .ensures (tableIn (now (start .args .table))) (sym (bound .bound-of .ensures))) (c .went .ensures))
@@ -38,7 +38,7 @@ returns-4 c = λ F valued. rw (c .before .before .found4 .given .1) (c .tick .en
 
 returns-5 : tie.Need-returns-5
 returns-5 c =
-    let found = c .before .before .before .before .before in
+    let found = c .before .before .before in
     let bound = found .before .before in
     let start = bound .before .before .before in
     λ F valued. rw (found .found5 .given .1) (turns F _ (start .args .p) _ _ (end-complete _ _ _ _) _ refl _ refl _ (c .before .end .ensures (tableIn (now (start .args .table))) (sym (bound .bound-of .ensures))) (c .went2 .ensures))
@@ -46,7 +46,7 @@ returns-5 c =
 pub take-spec : {M : Type 1} → statement M
 take-spec =
     tie.close
-    (tie.spec (λ c κs. search needs) (λ c. search needs) (λ c κs. search needs) change-requires (λ c κs. search needs)
+    (tie.spec (λ c κs. search needs) (λ c. search needs) change-requires (λ c κs. search needs)
     (λ c. search needs) (λ c κs. search needs) (λ c. search needs) (λ c κs. search needs)
-    (λ c. search needs) (λ c κs. search needs) (λ c. search needs) (λ c κs. search needs) end-requires (λ c κs. search needs)
+    (λ c. search needs) (λ c κs. search needs) (λ c. search needs) end-requires (λ c κs. search needs)
     returns returns-2 returns-3 returns-4 returns-5)
