@@ -1,7 +1,7 @@
 /**
  * Modules in one script: a function for each, which runs once, when it is first needed. Import and export lines as the kit writes them
  * are understood; any other stops the build. A module that is loaded later, as `() => import('./it.js')`, is there already, or stands in
- * a script of its own. Remarks on lines of their own are left out, since what starts must first be read.
+ * a script of its own. Remarks, types within a line and indents are left out, since what starts must first be read.
  */
 import { readFileSync } from 'node:fs';
 import { basename, dirname, relative, resolve } from 'node:path';
@@ -15,6 +15,17 @@ const LIST = /^export \{([^}]*)\};$/gm;
 const DECLARATION = /^export ((?:async )?function\*?|class|const) ([A-Za-z_$][\w$]*)/gm;
 const LATER = /\(\) => import\('([^']+)'\)/g;
 const REMARK = /^ *\/\*\*[^]*?\*\/\n/gm;
+const TYPE = /\/\*\* @type \{(?:[^*]|\*(?!\/))*\} \*\/ ?/g;
+
+/**
+ * Without what only a reader needs. A module with a text of several lines keeps its indents.
+ * @param {string} source
+ */
+function bare(source) {
+  const short = source.replace(REMARK, '').replace(TYPE, '');
+  const severalLines = short.split('\n').some((line) => (line.match(/`/g)?.length ?? 0) % 2 === 1);
+  return severalLines ? short : short.replace(/^ +/gm, '').replace(/\n{2,}/g, '\n');
+}
 
 /**
  * `a, b as c` as pairs: the name, and the other one or the same again.
@@ -38,7 +49,7 @@ const pattern = (list) => pairs(list).map(([name, own]) => `${name}: ${own}`).jo
 function wrap(source, valueOf, laterOf) {
   /** @type {string[]} */
   const exported = [];
-  const body = source.replace(REMARK, '')
+  const body = bare(source)
     .replace(IMPORT, (_, list, from) => `const { ${pattern(list)} } = ${valueOf(from)};`)
     .replace(REEXPORT, (_, list, from) => {
       for (const [name, as] of pairs(list)) exported.push(`${as}: ${valueOf(from)}.${name}`);

@@ -2,6 +2,7 @@
 declare module 'node:crypto';
 declare module 'node:fs';
 declare module 'node:module';
+declare module 'node:os';
 declare module 'node:path';
 declare module 'node:tty';
 declare module 'node:url';

@@ -46,6 +46,7 @@ async function begin() {
   redraw(page);
   addEventListener('hashchange', () => openAddress(/** @type {Page} */ (page)));
   addEventListener('beforeprint', () => writePaper(/** @type {Page} */ (page)));
+  addEventListener('afterprint', () => /** @type {Page} */ (page).sheets.done());
   followWidth(page);
   document.documentElement.dataset.ready = 'yes';
 }

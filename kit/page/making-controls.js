@@ -10,6 +10,7 @@ import { byId, fill, make } from './dom.js';
 export function listenToExercises(page) {
   fill(byId('make-topic'), ...TOPICS.map(({ name, title }) => make('option', { value: name }, title)));
   byId('make-shown').addEventListener('click', () => page.making.ofShown());
+  byId('make-sheet').addEventListener('click', () => page.making.sheet());
   byId('make-about').addEventListener('click', () => page.making.about());
   byId('make-topic').addEventListener('change', () => page.making.follow());
   listenToBlanks(page);

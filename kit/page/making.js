@@ -85,6 +85,11 @@ export class Making {
     fill(byId('make-says'), `Its inputs and times cannot be run: ${refusalLine(made)}.`);
   }
 
+  /** On paper, with its solutions. */
+  sheet() {
+    fill(byId('make-says'), this.page.sheets.print(this.#how().kinds));
+  }
+
   about() {
     const { page } = this;
     const { table } = page.answers.reading;

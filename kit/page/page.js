@@ -15,6 +15,7 @@ import { markTexts, showBadges, showFoot } from './marks.js';
 import { Stage } from './presenting.js';
 import { ReactionPanel } from './reaction.js';
 import { Rooms } from './rooms.js';
+import { Sheets } from './sheets.js';
 import { lookAtLine } from './stepping.js';
 import { Together } from './together.js';
 import { Touching } from './touching.js';
@@ -67,6 +68,7 @@ export class Page {
     this.live = new LivePanel(this);
     this.stage = new Stage(this);
     this.touching = new Touching(this);
+    this.sheets = new Sheets(this);
     this.making = new Making(this);
     /** Files and links are opened one after the other. @type {Promise<void>} */
     this.opening = Promise.resolve();

@@ -104,6 +104,8 @@ function textOf(pane, text, answers, { spot }) {
 export function writePaper(page) {
   const room = byId('paper');
   room.textContent = 'Nothing is answered.';
+  const sheets = page.sheets.ready();
+  if (sheets) return fill(room, ...sheets);
   const { answers, subject, said, texts, title, step: { selected } } = page;
   if (said === UNSAID) return fill(room, make('h1', {}, title), make('p', {}, byId('answer').innerText));
   const step = subject?.trace.steps[selected ?? -1] ?? null;

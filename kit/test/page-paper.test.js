@@ -111,3 +111,20 @@ test('a table alone, and a journal of 64 KB, are printed in full', async (t) => 
   for (const line of ['1 poll no_train', '4000 poll no_train', '8099 test free', '8100 end']) assert.ok(text.includes(line), line);
   assert.ok(pages.length < 45, `${pages.length} pages`);
 });
+
+test('a worksheet and its solutions are printed, on A4 and letter, and then the page again', async (t) => {
+  const tab = await open(t, 'example=classroom');
+  for (const sheet of SHEETS.filter(({ landscape }) => !landscape)) {
+    await tab.click('#make-sheet');
+    const { text, pages } = await printed(t, tab, sheet);
+    assert.equal(pages.length, 2, sheet.name);
+    const [work, solved] = pages.map((page) => page.map((word) => word.text).join(' '));
+    assert.match(work, /^The classroom run Name Date krossvil table cycle 3 .*8\. 11 tick: which state\?$/);
+    assert.ok(!/held\.|free\.|stays|4 left|over when/.test(work), 'no answer on the worksheet');
+    assert.match(solved, /^The classroom run: solutions .*3\. 5 test: held or free\? held\. Held: 'no_train' is delayed in 'busy', and 5 - 3 = 2 is at most 5\./);
+    assert.ok(pages.flat().every(({ left, right, bottom }) => left > 0.02 && right < 0.98 && bottom < 0.98), sheet.name);
+    assert.ok(!text.includes('Run the stimulus'));
+  }
+  await setPane(tab, 'journal', `${await paneText(tab, 'journal')}# more\n`);
+  assert.match((await printed(t, tab)).text, /accepted end=12/);
+});
