@@ -40,7 +40,7 @@ function memberOf(word, names, what) {
 /**
  * @param {string|undefined} words @param {string[]} names @param {string} what
  */
-function setFrom(words, names, what) {
+export function setFrom(words, names, what) {
   return words === undefined ? wholeSet(names.length) : setOf(splitNames(words).map((word) => memberOf(word, names, what)));
 }
 
