@@ -4,11 +4,13 @@
  */
 
 import { clockWord, rulesBehind } from './exercise/wrong-rules.js';
-import { explainJournal } from './explain.js';
+import { sayReaction } from './answers.js';
+import { explainJournal, explainReaction } from './explain.js';
 import { decodeRecords, decodeTable, recordBytes } from './fields.js';
 import { counted, say } from './names.js';
 import { ASKED } from './notation/records.js';
 import { stimulusOf } from './rerun.js';
+import { wholeSet } from './sets.js';
 import { traceJournal, traceStimulus } from './trace.js';
 
 /** @typedef {import('./types.js').Blank} Blank */
@@ -21,7 +23,8 @@ import { traceJournal, traceStimulus } from './trace.js';
 /** @typedef {import('./types.js').Refused} Refused */
 /** @typedef {import('./types.js').Table} Table */
 /** @typedef {import('./types.js').Trace} Trace */
-/** @typedef {Pick<ExercisePart, 'told'|'bytes'> & {blanks: Omit<Blank, 'origin'>[]}} Asked   an exercise, from a text or not */
+/** @typedef {Omit<import('./types.js').Question, 'origin'> & {origin?: import('./types.js').Origin}} Question */
+/** @typedef {Pick<ExercisePart, 'told'|'bytes'> & {blanks: Omit<Blank, 'origin'>[], questions?: Question[]}} Asked   from a text or not */
 
 /**
  * An exercise that can be done.
@@ -30,9 +33,13 @@ import { traceJournal, traceStimulus } from './trace.js';
  * @property {Table} table
  * @property {Asked} asked
  * @property {JournalRecord[]} run     what the runtime has written for its stimulus: the right answers are there, and nowhere else
+ * @property {Time[]} times            and those of its questions for a reaction time
  */
 
-/** @typedef {{ok: false, sentences: string[], place: number, refusal: Refusal|null}} Bad   why it cannot be done; a place in its bytes */
+/**
+ * Why an exercise cannot be done: a place in its bytes, or, if it is a question, that.
+ * @typedef {{ok: false, sentences: string[], place: number, refusal: Refusal|null, question?: Question}} Bad
+ */
 
 /**
  * @typedef {Object} Grade
@@ -41,6 +48,7 @@ import { traceJournal, traceStimulus } from './trace.js';
  * @property {number} right
  * @property {(boolean|null)[]} each   of each blank: is its answer that of the run? null where there is none
  * @property {Trace|null} refused      what the checker refuses of the journal with the answers in it, up to the first that is missing
+ * @property {Time|null} time          of the questions for a reaction time the first that is answered wrong
  * @property {string[]} machines       whose answers these are, if all are given: machines with a wrong rule, in words
  */
 
@@ -98,6 +106,23 @@ function wrongGiven(library, { table, names }, { bytes, blanks }, run) {
 }
 
 /**
+ * A question for a reaction time as the library is asked it, and its answer.
+ * @typedef {{question: Question, asks: {states: number, inputs: number, moves?: number}, answer: any}} Time
+ */
+
+/**
+ * @param {Library} library @param {Uint8Array} tableBytes @param {Table} table @param {Question} question
+ * @returns {Time}
+ */
+function askTime(library, tableBytes, { counts }, question) {
+  const states = question.states ?? wholeSet(counts.states);
+  const inputs = question.inputs ?? wholeSet(counts.inputs);
+  const { moves } = question;
+  if (moves === null) return { question, asks: { states, inputs }, answer: library.reaction(tableBytes, states, inputs) };
+  return { question, asks: { states, inputs, moves }, answer: library.reactionMoves(tableBytes, states, inputs, moves) };
+}
+
+/**
  * An exercise under a table that passes, or why it cannot be done.
  * @param {Library} library @param {{table: Uint8Array, names?: Names|null}} given @param {Asked} asked
  * @returns {{ok: true, exercise: Exercise} | Bad}
@@ -106,11 +131,19 @@ export function openExercise(library, given, asked) {
   const table = decodeTable(given.table, given.names);
   const stimulus = stimulusOf(asked.bytes, 'journal');
   if (!table || !stimulus) return bad(['The exercise cannot be done: something in it is no record.']);
-  if (asked.blanks.length === 0) return bad(['Nothing is asked in this exercise. A question mark stands for a value that is asked, as in: 5 test ?']);
+  const { blanks, questions = [] } = asked;
+  if (blanks.length + questions.length === 0) {
+    return bad(['Nothing is asked in this exercise. A question mark stands for a value that is asked, as in: 5 test ?']);
+  }
+  const times = questions.map((question) => askTime(library, given.table, table, question));
+  const untimely = times.find(({ answer }) => !answer.ok);
+  if (untimely) return { ...bad(explainReaction(table, untimely.answer, untimely.asks).sentences), question: untimely.question };
+  const exercise = { tableBytes: given.table, table, asked, run: /** @type {JournalRecord[]} */ ([]), times };
+  if (asked.bytes.length === 0) return { ok: true, exercise };
   const ran = library.run(given.table, stimulus);
   if (!ran.ok) return refusedStimulus(library, given, stimulus, asked);
   const run = decodeRecords(ran.bytes, 'journal');
-  return wrongGiven(library, given, asked, run) ?? { ok: true, exercise: { tableBytes: given.table, table, asked, run } };
+  return wrongGiven(library, given, asked, run) ?? { ok: true, exercise: { ...exercise, run } };
 }
 
 /**
@@ -130,15 +163,19 @@ function answeredJournal({ bytes, blanks }) {
  * @param {Library} library @param {Exercise} exercise
  * @returns {Grade}
  */
-export function grade(library, { tableBytes, table, asked, run }) {
+export function grade(library, { tableBytes, table, asked, run, times }) {
   const { blanks } = asked;
-  const trace = traceJournal(library, { table: tableBytes, journal: answeredJournal(asked), form: 'journal', names: table.names });
-  const each = blanks.map(({ record, answer }) => (answer === null ? null : answer === run[record].value));
+  const journal = run.length > 0 ? answeredJournal(asked) : null;
+  const trace = journal && traceJournal(library, { table: tableBytes, journal, form: 'journal', names: table.names });
+  const ofRun = blanks.map(({ record, answer }) => (answer === null ? null : answer === run[record].value));
+  const ofTimes = times.map(({ question, answer }) => (question.answer === null ? null : question.answer === answer.time));
+  const each = [...ofRun, ...ofTimes];
   const count = (/** @type {boolean[]} */ ...of) => each.filter((is) => is !== null && of.includes(is)).length;
   const answers = new Map(blanks.map(({ record, answer }) => [record, answer ?? -1]));
-  const whole = !each.includes(null) && each.includes(false);
+  const whole = !ofRun.includes(null) && ofRun.includes(false);
   return {
-    blanks: blanks.length, answered: count(true, false), right: count(true), each, refused: trace?.refused ? trace : null,
+    blanks: each.length, answered: count(true, false), right: count(true), each,
+    refused: trace?.refused ? trace : null, time: times[ofTimes.indexOf(false)] ?? null,
     machines: whole ? rulesBehind(table, run, answers).map(({ machine }) => machine(clockWord(table))) : [],
   };
 }
@@ -152,8 +189,18 @@ export function sayCount({ blanks, answered, right }) {
   const left = blanks - answered;
   if (right === blanks) return blanks === 1 ? 'The answer is right.' : say`All ${blanks} answers are right.`;
   const open = left === 0 ? '' : say`; ${left} ${left === 1 ? 'is' : 'are'} not answered yet`;
+  if (blanks === 1) return 'The answer is wrong.';
   if (answered === 1) return say`The first answer is ${right === 1 ? 'right' : 'wrong'}${open}.`;
   return say`${right === 0 ? 'None' : right} of ${answered} answers ${right < 2 ? 'is' : 'are'} right${open}.`;
+}
+
+/**
+ * What the reaction time is where it was answered wrong.
+ * @param {Table} table @param {Grade} grade
+ * @returns {string[]}
+ */
+export function sayTime(table, { time }) {
+  return time ? [say`The reaction time is not ${time.question.answer ?? 0}.`, ...sayReaction(table, time.asks, time.answer)] : [];
 }
 
 /**

@@ -195,8 +195,7 @@ export function recordsText(bytes, form, names, notes) {
 
 /**
  * An exercise as a text, with what was answered so far.
- * @param {Pick<ExercisePart, 'told'|'bytes'> & {blanks: Pick<import('./types.js').Blank, 'record'|'answer'>[]}} exercise
- * @param {Names|null} [names]
+ * @param {import('./types.js').WrittenExercise} exercise @param {Names|null} [names]
  */
 export function exerciseText(exercise, names) {
   return writeExercise(exercise, names && writable(names) ? names : NONE);

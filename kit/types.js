@@ -252,6 +252,20 @@
  * @property {Uint8Array} bytes
  * @property {Origin[]} origins
  * @property {Blank[]} blanks
+ * @property {Question[]} questions
+ */
+
+/**
+ * A reaction time that is asked in an exercise. A set that is null has all members; without moves it is over one of the library's steps.
+ * @typedef {Object} Question
+ * @property {number|null} states
+ * @property {number|null} inputs
+ * @property {number|null} moves
+ * @property {number|null} answer
+ * @property {Origin} origin
+ *
+ * What is needed to write an exercise.
+ * @typedef {{told: ExercisePart['told'], bytes: Uint8Array, blanks: Pick<Blank, 'record'|'answer'>[], questions?: Omit<Question, 'origin'>[]}} WrittenExercise
  */
 
 /**

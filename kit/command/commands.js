@@ -76,12 +76,14 @@ export const COMMANDS = {
     ],
   },
   exercise: {
-    group: 'in class', files: 'TABLE [STIMULUS]', count: [1, 2], options: ['output', 'about', 'seed', 'length', 'blank', 'told', 'answers'],
+    group: 'in class', files: 'TABLE [STIMULUS]', count: [1, 2],
+    options: ['output', 'about', 'seed', 'length', 'blank', 'told', 'answers', 'from', 'while', 'moves'],
     module: () => import('./exercise.js'), writes: true,
     says: 'a journal with blanks; or, of one that is filled in, what is right',
     more: ['A value that is asked is a question mark: 5 test ? The answer goes behind it: 5 test ? held. What is right is nowhere in the text; the '
       + 'runtime finds it. With an exercise in the place of the stimulus it is said how many answers are right, what the checker says of the first '
       + 'wrong one, and which wrong rule gives just these answers, if one does.',
+    'With --from, --while or --moves a reaction time is asked.',
     'With --about the stimulus is drawn by chance, so that those who have the rule wrong answer otherwise at two blanks at least. The topics are: '
       + 'poll, an input is seen only if it stands at a poll; entry, a hold runs from the entry; delayed, it governs only the inputs that are '
       + "delayed; passed, it ends when it is passed; test, it is measured at the test; change, it does not run from the input's change; region, a "
@@ -90,6 +92,7 @@ export const COMMANDS = {
       ['krossvil exercise classroom.kv -o exercise.kv', 'every value that the machine finds is asked'],
       ['krossvil exercise classroom.kv --blank test --told end', 'the verdicts only, told at the end'],
       ['krossvil exercise classroom.kv --about entry --seed 7 --length 15', 'those who start the hold again at each tick are found out'],
+      ['krossvil exercise stutter-filter.kv --while no_tr', 'how long at most until "no train" is reported?'],
     ],
   },
   sheet: {

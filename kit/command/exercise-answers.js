@@ -1,6 +1,6 @@
 /** What is said of an exercise that was filled in. What is right, and why, is the library's answer. */
 
-import { grade, openExercise, sayCount, sayMachines } from '../exercise.js';
+import { grade, openExercise, sayCount, sayMachines, sayTime } from '../exercise.js';
 import { explainJournal } from '../explain.js';
 import { decodeRecords, decodeTable } from '../fields.js';
 import { originAt, recordLine, showMistakes } from '../notation.js';
@@ -24,6 +24,17 @@ import { Trouble } from './trouble.js';
 function troubleAt({ file, text }, part, place, says) {
   const { line, column, width } = originAt(part, place) ?? { line: part.line, column: 1, width: 1 };
   return new Trouble(showMistakes({ mistakes: [{ line, column, width, says }], lines: text?.lines ?? [] }, shownFile(file)));
+}
+
+/**
+ * Why an exercise cannot be done, at its place.
+ * @param {GivenExercise} given @param {ExercisePart} part @param {import('../exercise.js').Bad} bad
+ */
+function badAt({ file, text }, part, { sentences, place, question }) {
+  const nothing = part.blanks.length + part.questions.length === 0;
+  const origin = question?.origin ?? (nothing ? null : originAt(part, place)) ?? { line: part.line, column: 1, width: 1 };
+  const mistake = { line: origin.line, column: origin.column, width: origin.width, says: sentences.join(' ') };
+  return new Trouble(showMistakes({ mistakes: [mistake], lines: text?.lines ?? [] }, shownFile(file)));
 }
 
 /**
@@ -53,7 +64,8 @@ export function answersFrom(asking, table, given, file) {
   const blanks = asked.blanks.map((each) => ({
     ...each, answer: open.has(each.record) ? null : records[each.record].value, origin: originAt(part, each.place) ?? each.origin,
   }));
-  return { ...filled, part: { ...asked, bytes: part.bytes, origins: part.origins, line: part.line, blanks } };
+  const questions = asked.questions.map((question, k) => ({ ...question, answer: filled.part?.questions[k]?.answer ?? null }));
+  return { ...filled, part: { ...asked, bytes: part.bytes, origins: part.origins, line: part.line, blanks, questions } };
 }
 
 /**
@@ -85,16 +97,16 @@ export function gradeGiven(asking, table, given) {
   const part = /** @type {ExercisePart} */ (given.part);
   asking.terminal = new Terminal(asking.io, { plain: asking.plain || asking.json, beside: false });
   const opened = openExercise(asking.library, { table: table.bytes, names: table.names }, part);
-  if (!opened.ok) throw troubleAt(given, part, part.blanks.length === 0 ? -1 : opened.place, opened.sentences.join(' '));
+  if (!opened.ok) throw badAt(given, part, opened);
   const got = grade(asking.library, opened.exercise);
   if (part.told === 'end' && got.answered < got.blanks) return sayOpen(asking, given, got);
-  return sayGrade(asking, given, got);
+  return sayGrade(asking, given, got, sayTime(opened.exercise.table, got));
 }
 
 /**
- * @param {Asking} asking @param {GivenExercise} given @param {Grade} got
+ * @param {Asking} asking @param {GivenExercise} given @param {Grade} got @param {string[]} ofTime
  */
-function sayGrade(asking, given, got) {
+function sayGrade(asking, given, got, ofTime) {
   const { terminal } = asking;
   const { right, answered, blanks, machines } = got;
   const refused = toldOf(given, got);
@@ -105,6 +117,7 @@ function sayGrade(asking, given, got) {
     terminal.line(`right ${right} of ${blanks}`, right === blanks ? 'green' : 'red');
     terminal.sentence(sayCount(got));
     if (refused) tell(asking, refused);
+    for (const sentence of ofTime) terminal.sentence(sentence);
     const says = sayMachines(got);
     if (says) terminal.sentence(says, 'bold');
   }

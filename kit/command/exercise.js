@@ -2,7 +2,7 @@
 
 import { exerciseAbout, CYCLES_MOST, topicOf } from '../exercise/about.js';
 import { TOPICS } from '../exercise/topics.js';
-import { makeExercise } from '../exercise.js';
+import { makeExercise, openExercise } from '../exercise.js';
 import { decodeTable } from '../fields.js';
 import { counted, listed } from '../names.js';
 import { exerciseText, tableText } from '../notation.js';
@@ -12,6 +12,8 @@ import { ASKED } from '../notation/records.js';
 import { ACCEPTED, REFUSED } from './asking.js';
 import { tableRefused } from './check.js';
 import { answersFrom, gradeGiven } from './exercise-answers.js';
+import { numberOf } from './pictures.js';
+import { setFrom } from './react.js';
 import { tell, told } from './refusals.js';
 import { Trouble } from './trouble.js';
 import { put } from './writing.js';
@@ -62,11 +64,12 @@ function deliver(asking, table, asked, says, numbers) {
   const names = table.names ?? decodeTable(table.bytes)?.names ?? null;
   const text = `${tableText(table.bytes, names)}\n${exerciseText(asked, names)}`;
   const { output } = asking.options;
-  if (asked.blanks.length === 0) throw new Trouble('nothing would be asked: the stimulus has no such record');
+  const count = asked.blanks.length + (asked.questions?.length ?? 0);
+  if (count === 0) throw new Trouble('nothing would be asked: the stimulus has no such record');
   if (!asking.json || output !== undefined) put(asking, text);
   const made = output === undefined ? { text } : { wrote: output };
-  if (asking.json) asking.terminal.json({ answer: 'accepted', blanks: asked.blanks.length, ...numbers, ...made });
-  else asking.terminal.sentence(`${says}${counted(asked.blanks.length, 'value')} ${asked.blanks.length === 1 ? 'is' : 'are'} asked.`);
+  if (asking.json) asking.terminal.json({ answer: 'accepted', blanks: count, ...numbers, ...made });
+  else asking.terminal.sentence(`${says}${counted(count, 'value')} ${count === 1 ? 'is' : 'are'} asked.`);
   return ACCEPTED;
 }
 
@@ -82,6 +85,25 @@ function makeAbout(asking, table) {
   const made = exerciseAbout(library, table.bytes, /** @type {import('../exercise/topics.js').Topic} */ (topic), { seed, cycles, ...howOf(asking) });
   if (!made.ok) throw new Trouble(made.says);
   return deliver(asking, table, made.asked, `Seed ${seed}, ${counted(made.cycles, 'cycle')}: `, { seed, cycles: made.cycles });
+}
+
+/**
+ * A question for a reaction time.
+ * @param {Asking} asking @param {TableSource} source
+ */
+function makeQuestion(asking, source) {
+  const { options } = asking;
+  const table = /** @type {import('../types.js').Table} */ (decodeTable(source.bytes, source.names));
+  const set = (/** @type {string|undefined} */ words, /** @type {string[]} */ names, /** @type {string} */ what) => (
+    words === undefined ? null : setFrom(words, names, what));
+  const question = {
+    states: set(options.from, table.names.states, 'state'), inputs: set(options.while, table.names.inputs, 'input'),
+    moves: numberOf(asking, 'moves', 4294967295, 32) ?? null, answer: null,
+  };
+  const asked = { told: howOf(asking).told, bytes: new Uint8Array(), blanks: [], questions: [question] };
+  const opened = openExercise(asking.library, { table: source.bytes, names: source.names }, asked);
+  if (!opened.ok) throw new Trouble(opened.sentences.join(' '));
+  return deliver(asking, source, asked, '', {});
 }
 
 /**
@@ -102,6 +124,7 @@ export function exercise(asking) {
   const table = asking.table();
   if (tableRefused(asking, table)) return REFUSED;
   if (about !== undefined) return makeAbout(asking, table);
+  if (['from', 'while', 'moves'].some((option) => asking.options[option] !== undefined)) return makeQuestion(asking, table);
   if (seed !== undefined || length !== undefined) throw new Trouble('--seed and --length go with --about TOPIC');
   const given = asking.sources.exercise(asking.files[1], table);
   if (given.part) return gradeGiven(asking, table, answers === undefined ? given : answersFrom(asking, table, given, answers));

@@ -2,6 +2,7 @@
 
 import { decodeRecords } from '../fields.js';
 import { didYouMean } from './mistakes.js';
+import { isQuestion, questionLine, readQuestion } from './questions.js';
 import { readRecord, recordLine, valueText } from './records.js';
 
 /** @typedef {import('../types.js').Names} Names */
@@ -44,21 +45,23 @@ export function readExercise(reading, header, body) {
   const blanks = [];
   const first = body[0] && isTold(body[0]) ? 1 : 0;
   const told = first === 1 ? readTold(reading, body[0]) : 'each';
-  for (const [record, line] of body.slice(first).entries()) {
+  const lines = body.slice(first);
+  const questions = lines.filter(isQuestion).map((line) => readQuestion(reading, line));
+  for (const [record, line] of lines.filter((each) => !isQuestion(each)).entries()) {
     if (reading.mistakes.stop()) break;
     if (line.tokens[0].text === 'bytes') reading.mistakes.add(line.number, line.tokens[0], 'an exercise is of records only: no bytes stand in it');
     const read = readRecord(reading, line, 'journal', bytes.length, (blank) => blanks.push({ ...blank, record }));
     for (const byte of read.bytes) bytes.push(byte);
     origins.push(...read.origins);
   }
-  return { kind: 'exercise', line: header.number, told, bytes: Uint8Array.from(bytes), origins, blanks };
+  return { kind: 'exercise', line: header.number, told, bytes: Uint8Array.from(bytes), origins, blanks, questions };
 }
 
 /**
  * The text of an exercise, with what was answered so far.
- * @param {{told: ExercisePart['told'], bytes: Uint8Array, blanks: Pick<Blank, 'record'|'answer'>[]}} exercise @param {Names} names
+ * @param {import('../types.js').WrittenExercise} exercise @param {Names} names
  */
-export function writeExercise({ told, bytes, blanks }, names) {
+export function writeExercise({ told, bytes, blanks, questions = [] }, names) {
   const records = decodeRecords(bytes, 'journal');
   const width = records.reduce((most, { written }) => Math.max(most, String(written ?? '').length), 1);
   const asked = new Map(blanks.map(({ record, answer }) => [record, answer]));
@@ -68,5 +71,5 @@ export function writeExercise({ told, bytes, blanks }, names) {
     const said = answer === null ? '' : valueText({ ...record, value: answer }, names);
     return `${recordLine({ ...record, value: null }, names, width).padEnd(width + 9)}? ${said}`.trimEnd();
   });
-  return ['krossvil exercise', TOLD[told], ...lines, ''].join('\n');
+  return ['krossvil exercise', TOLD[told], ...questions.map((question) => questionLine(question, names)), ...lines, ''].join('\n');
 }

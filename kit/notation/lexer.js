@@ -39,7 +39,8 @@ const patterns = () => (made ??= makePatterns());
 
 /** Words with a meaning of their own. A name that is one of them is written in quotation marks. */
 const KEYWORDS = new Set(['krossvil', 'table', 'stimulus', 'journal', 'stamped', 'short', 'cycle', 'inputs', 'outputs', 'start', 'timer',
-  'over', 'state', 'output', 'hold', 'delays', 'bytes', 'input', 'change', 'poll', 'test', 'tick', 'end', 'exercise', 'told']);
+  'over', 'state', 'output', 'hold', 'delays', 'bytes', 'input', 'change', 'poll', 'test', 'tick', 'end', 'exercise', 'told',
+  'reaction', 'from', 'while', 'takes']);
 
 /**
  * What is wrong with a name; null if nothing is.

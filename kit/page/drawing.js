@@ -10,6 +10,7 @@ import { byId, empty, fill, inTwoColumns, show } from './dom.js';
 import { litAt, shownStep } from './lit.js';
 import { lookOf } from './looks.js';
 import { showMachine } from './machine.js';
+import { showQuestions } from './questions.js';
 import { showTools } from './toolbox.js';
 import { showTouch } from './touching.js';
 import { PANES } from './workspace.js';
@@ -36,13 +37,21 @@ export function draw(page) {
   showTools(page);
   for (const id of ['diagram', 'stepping']) rooms.set(id, subject !== null);
   rooms.set('machine', subject !== null && subject.kind !== 'exercise');
-  for (const id of ['make-panel', 'reaction-panel']) rooms.set(id, answers.decoded !== null);
+  rooms.set('make-panel', answers.decoded !== null);
+  rooms.set('reaction-panel', answers.decoded !== null && !asksTime(page));
+  showQuestions(page);
   placeAutomaton(page);
   byId('pictures').hidden = ['diagram', 'machine', 'automaton-below'].every((id) => byId(id).hidden);
-  page.reaction.update(answers);
+  page.reaction.update(asksTime(page) ? { ...answers, decoded: null } : answers);
   drawStep(page);
   rooms.end();
 }
+
+/**
+ * Where a reaction time is asked in an exercise, the page gives none.
+ * @param {Page} page
+ */
+const asksTime = ({ answers: { reading: { exercise } } }) => exercise !== null && exercise.questions.length > 0;
 
 /**
  * Below the texts, where there are two columns and the automaton has room there; else below the machine.

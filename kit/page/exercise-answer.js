@@ -29,14 +29,17 @@ function untold({ answered, blanks }) {
  * @param {Reading} reading @param {Doing} doing @param {Grade} grade
  * @returns {Said}
  */
-function told(reading, { part }, grade) {
+function told(reading, { part, sentences: ofTime }, grade) {
   const { answered, right, blanks, refused } = grade;
   const line = answered === 0 ? say`answered 0 of ${blanks}` : say`right ${right} of ${blanks}`;
   const slip = sayMachines(grade);
-  if (!refused?.refused) return { ...PLAIN, look: answered === 0 ? 'quiet' : right === answered ? 'accepted' : 'refused', line, sentences: [sayCount(grade)], slip };
+  if (!refused?.refused) {
+    const look = answered === 0 ? 'quiet' : right === answered ? 'accepted' : 'refused';
+    return { ...PLAIN, look, line, sentences: [sayCount(grade), ...ofTime], slip };
+  }
   const { sentences, blame } = explainJournal(refused);
   const meaning = `${refusalLine(refused.refused)}: ${MEANINGS.get(refused.refused.number)}`;
-  return { ...PLAIN, look: 'refused', line, meaning, sentences: [sayCount(grade), ...sentences], slip, spot: spotOf(reading, part, blame.place) };
+  return { ...PLAIN, look: 'refused', line, meaning, sentences: [sayCount(grade), ...sentences, ...ofTime], slip, spot: spotOf(reading, part, blame.place) };
 }
 
 /**
@@ -52,7 +55,8 @@ export const isDone = (doing) => doing?.grade !== null && doing?.grade.answered 
 export function sayExercise(reading, doing, tells) {
   const { part, grade, bad } = doing;
   if (bad) {
-    const spot = part.blanks.length === 0 ? { ...reading.place(part.line), column: 1, width: 1 } : spotOf(reading, part, bad.place);
+    const origin = bad.question?.origin ?? (part.blanks.length + part.questions.length === 0 ? { line: part.line, column: 1, width: 1 } : null);
+    const spot = origin ? { ...reading.place(origin.line), column: origin.column, width: origin.width } : spotOf(reading, part, bad.place);
     return { ...PLAIN, look: 'mistake', line: 'This exercise cannot be done', sentences: bad.sentences, spot };
   }
   if (!grade) return { ...PLAIN, look: 'quiet', line: '' };

@@ -3,6 +3,7 @@
 import { TOPICS } from '../exercise/topics.js';
 import { listenToBlanks } from './answering.js';
 import { byId, fill, make } from './dom.js';
+import { listenToQuestions } from './questions.js';
 
 /** @typedef {import('./page.js').Page} Page */
 
@@ -13,5 +14,7 @@ export function listenToExercises(page) {
   byId('make-sheet').addEventListener('click', () => page.making.sheet());
   byId('make-about').addEventListener('click', () => page.making.about());
   byId('make-topic').addEventListener('change', () => page.making.follow());
+  byId('make-question').addEventListener('click', () => page.making.ofTime());
   listenToBlanks(page);
+  listenToQuestions(page);
 }

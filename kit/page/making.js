@@ -69,9 +69,10 @@ export class Making {
    */
   #put(asked, says) {
     const { page } = this;
-    if (asked.blanks.length === 0) return fill(byId('make-says'), 'Nothing would be asked: choose polls, tests or ticks that are there.');
+    const count = asked.blanks.length + (asked.questions?.length ?? 0);
+    if (count === 0) return fill(byId('make-says'), 'Nothing would be asked: choose polls, tests or ticks that are there.');
     page.replace({ table: page.texts.table, stimulus: '', journal: exerciseText(asked, page.answers.decoded?.names) }, 'journal', 'An exercise');
-    page.notice(say`${says}${counted(asked.blanks.length, 'value')} ${asked.blanks.length === 1 ? 'is' : 'are'} asked. The link hands it on.`);
+    page.notice(say`${says}${counted(count, 'value')} ${count === 1 ? 'is' : 'are'} asked. The link hands it on.`);
     byId('tab-journal').focus({ preventScroll: true });
     scrollTo(0, 0);
   }
@@ -88,6 +89,13 @@ export class Making {
   /** On paper, with its solutions. */
   sheet() {
     fill(byId('make-says'), this.page.sheets.print(this.#how().kinds));
+  }
+
+  /** The reaction time that the form asks for. */
+  ofTime() {
+    const { sets: { states, inputs }, rooms: { moves } } = this.page.reaction;
+    const question = { states, inputs, moves: moves.value === '1' ? null : Number(moves.value), answer: null };
+    this.#put({ told: this.#how().told, bytes: new Uint8Array(), blanks: [], questions: [question] }, '');
   }
 
   about() {

@@ -74,7 +74,8 @@ const SAVINGS = [
     save: ({ answers, theme }) => answers.decoded && save('krossvil-matrix.svg', matrix(answers.decoded, { theme }), SVG) },
   { label: 'Automaton, DOT', can: hasTable,
     save: ({ answers }) => answers.decoded && save('krossvil-automaton.dot', automatonDot(answers.decoded), 'text/plain') },
-  { label: 'Waves, VCD', can: ({ subject }) => subject !== null && subject.kind !== 'exercise', save: ({ subject }) => subject && save('krossvil.vcd', vcd(subject.trace), 'text/plain') },
+  { label: 'Waves, VCD', can: ({ subject }) => subject !== null && subject.kind !== 'exercise',
+    save: ({ subject }) => subject && save('krossvil.vcd', vcd(subject.trace), 'text/plain') },
 ];
 
 /**

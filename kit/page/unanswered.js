@@ -4,9 +4,9 @@ import { byId, closeMenu, empty, fill, make } from './dom.js';
 
 const SHOWS_ANSWERS = ['diagram', 'machine', 'automaton', 'where', 'step-short', 'spoken', 'tools', 'tool-answer', 'reaction-answer',
   'reaction-slow', 'reaction-picture', 'pane-says', 'stage-picture', 'stage-says', 'stage-where', 'touch-says', 'touch-refused', 'live-time',
-  'live-says', 'make-says', 'blank-says', 'blank-choices', 'save-list', 'together-list', 'paper'];
+  'live-says', 'make-says', 'blank-says', 'blank-choices', 'questions', 'save-list', 'together-list', 'paper'];
 const PICTURES = '#pictures, #automaton-beside, #automaton-below, #make-panel, #reaction-panel, #stepping';
-const OTHERS = '#tools-panel, #together, #live-panel, #blank, #run';
+const OTHERS = '#tools-panel, #together, #live-panel, #questions-panel, #blank, #run';
 
 /** @param {string} rooms */
 function hide(rooms) {
@@ -39,6 +39,7 @@ export function showNothing(sentences, again = null) {
   for (const badge of document.querySelectorAll('.badge')) badge.textContent = '';
   delete byId('tools').dataset.shown;
   delete byId('blank-choices').dataset.shown;
+  delete byId('questions').dataset.shown;
   emptyPictures();
   hide(OTHERS);
   byId('save').open = false;

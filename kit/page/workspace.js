@@ -3,7 +3,7 @@
  */
 
 import { exerciseTrace } from '../exercise/shown.js';
-import { grade, openExercise } from '../exercise.js';
+import { grade, openExercise, sayTime } from '../exercise.js';
 import { decodeRecords, decodeTable } from '../fields.js';
 import { explainJournal, explainTable } from '../explain.js';
 import { originAt, readText } from '../notation.js';
@@ -51,6 +51,7 @@ import { traceJournal, traceStimulus } from '../trace.js';
  * @property {Subject|null} subject
  * @property {import('../exercise.js').Grade|null} grade
  * @property {import('../exercise.js').Bad|null} bad
+ * @property {string[]} sentences      about a reaction time that was answered wrong
  */
 
 /**
@@ -166,12 +167,14 @@ function doingOf(library, reading, table) {
   const { exercise: part, names } = reading;
   if (!part) return null;
   const opened = openExercise(library, { table, names }, part);
-  if (!opened.ok) return { part, subject: null, grade: null, bad: opened };
+  if (!opened.ok) return { part, subject: null, grade: null, bad: opened, sentences: [] };
+  const graded = grade(library, opened.exercise);
+  if (part.bytes.length === 0) return { part, subject: null, grade: graded, bad: null, sentences: sayTime(opened.exercise.table, graded) };
   const trace = exerciseTrace(opened.exercise.table, table, part);
   const lines = linesAt(reading, part, trace.steps.map(({ record }) => record.place));
   /** @type {Subject} */
   const subject = { kind: 'exercise', pane: reading.place(part.line).pane, part, trace, explanation: null, lines };
-  return { part, subject, grade: grade(library, opened.exercise), bad: null };
+  return { part, subject, grade: graded, bad: null, sentences: sayTime(opened.exercise.table, graded) };
 }
 
 /**

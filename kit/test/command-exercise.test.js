@@ -74,6 +74,20 @@ test('answers behind the question marks; all right; told at the end', async () =
   assert.equal(whole.code, 0);
 });
 
+test('a reaction time is asked and answered', async () => {
+  const exercise = await made('classroom.kv --while no_train --moves 2');
+  assert.match(exercise, /\nreaction while no_train over 2 moves takes \?\n$/);
+  const { time } = (await ask(words('react classroom.kv --while no_train --moves 2 --json'), FILES)).lines[0];
+  const right = await said(exercise.replace('takes ?', `takes ? ${time}`));
+  assert.deepEqual([right.code, right.out], [0, 'right 1 of 1\n  The answer is right.\n']);
+  const wrong = await said(exercise, ' --answers theirs.kv', { 'theirs.kv': exercise.replace('takes ?', `takes ? ${time + 1}`) });
+  assert.equal(wrong.code, 1);
+  assert.match(wrong.out, new RegExp(`^right 0 of 1\\n {2}The answer is wrong\\.\\n {2}The reaction time is not ${time + 1}\\.\\n.*at most ${time} `));
+  assert.match((await ask(words('exercise gas-burner.kv --while off'), FILES)).err, /Reaction times are calculated for tables with holds/);
+  const outside = await said(exercise.replace('while no_train over 2 moves', 'from busy while no_train'));
+  assert.match(outside.err, /mine\.kv:\d+:\d+: The states do not hold together/);
+});
+
 test('what is wrong is said at its place', async () => {
   const exercise = await made('classroom.kv');
   const says = async (text, more, files) => (await said(text, more, files)).err;

@@ -5,7 +5,7 @@ import { exerciseAbout, toldApart } from '../exercise/about.js';
 import { exerciseTrace } from '../exercise/shown.js';
 import { TOPICS, clocksOf } from '../exercise/topics.js';
 import { WRONG_RULES, answersOf } from '../exercise/wrong-rules.js';
-import { grade, makeExercise, openExercise, sayCount, sayMachines } from '../exercise.js';
+import { grade, makeExercise, openExercise, sayCount, sayMachines, sayTime } from '../exercise.js';
 import { explainJournal } from '../explain.js';
 import { decodeRecords, decodeTable, encodeTable } from '../fields.js';
 import { exerciseText, readText, tableText } from '../notation.js';
@@ -26,6 +26,7 @@ function read(text) {
 }
 
 const CLASSROOM = read(sample('classroom'));
+const TABLE = sample('classroom').split('krossvil stimulus')[0];
 
 /** An exercise with these answers, by the number of the record. */
 const answered = (asked, answers) => {
@@ -166,6 +167,37 @@ test('bad exercises get a sentence with their place', () => {
   const given = bad('input train', '2 poll no_train', '2 test ?', '2 end');
   assert.deepEqual([given[0], given[1].slice(0, 66)], [4, 'The exercise cannot be done: a value that it gives is refused. The']);
   assert.equal(bad('input train', '2 poll ?')[0], 12);
+});
+
+test('a reaction time is asked: read, written, graded by the library', () => {
+  const { table, names } = CLASSROOM;
+  const exercise = (...lines) => read(`${TABLE}krossvil exercise\n${lines.join('\n')}\n`).exercise;
+  const line = 'reaction from busy while no_train over 2 moves takes ?';
+  const { questions: [question] } = exercise(line);
+  assert.deepEqual([question.states, question.inputs, question.moves, question.answer], [2, 1, 2, null]);
+  for (const each of [line, `${line} 7`, 'reaction takes ?', 'reaction while no_train, train takes ? 0']) {
+    assert.equal(exerciseText(exercise(each), names), `krossvil exercise\ntold at each answer\n${each}\n`);
+  }
+  const right = library.reaction(table, 3, 1).time;
+  const graded = (...lines) => grade(library, open(CLASSROOM, exercise(...lines)));
+  const asks = 'reaction from idle, busy while no_train takes ?';
+  assert.deepEqual([graded(asks).answered, graded(`${asks} ${right}`).right, graded(`${asks} ${right}`).time], [0, 1, null]);
+  const wrong = graded(`${asks} ${right + 1}`);
+  assert.deepEqual([wrong.right, wrong.time.answer.time], [0, right]);
+  assert.match(sayTime(decodeTable(table, names), wrong).join(' '), new RegExp(`^The reaction time is not ${right + 1}\\. As long as .* at most ${right} `));
+  const moves = library.reactionMoves(table, 3, 1, 2).time;
+  assert.equal(graded(`reaction while no_train over 2 moves takes ? ${moves}`).right, 1);
+  const both = graded(`${asks} 1`, 'input train', '2 poll ? no_train', '2 test ?', '3 end');
+  assert.deepEqual([both.blanks, both.answered, both.right, both.refused.stop, both.each], [3, 2, 0, 1, [false, null, false]]);
+  const outside = openExercise(library, CLASSROOM, exercise('reaction from busy while no_train takes ?'));
+  assert.deepEqual([outside.ok, outside.question?.moves], [false, null]);
+  assert.match(outside.sentences[0], /The states do not hold together/);
+  const says = (text) => mistake(`${TABLE}krossvil exercise\n${text}\n`)[2];
+  assert.match(says('reaction while no_train takes 5'), /what is asked is how long it takes/);
+  assert.match(says('reaction while no_train'), /what is asked is how long it takes/);
+  assert.match(says('reaction while tarin takes ?'), /there is no input 'tarin'/);
+  assert.match(says('reaction no_train takes ?'), /is written: reaction from/);
+  assert.match(says('reaction over two moves takes ?'), /is a whole number/);
 });
 
 const TABLES = ['classroom', 'watchdog', 'mixer', 'gas-burner'];

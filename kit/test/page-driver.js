@@ -13,8 +13,8 @@ function drive() {
   const FILES = [['t', TABLE], ['a', [16, 0, 1, 0]], ['b', [16, 0, 1, 0, 31, 0, 4, 0, 0, 0, 0]], ['c', [137, 80, 78, 71]], ['d', [32, 0, 1, 0]]];
   const TEXT = 'krossvil journal\ninput 0\n';
   const ANSWERS = '#live-time, #live-says, #machine, #where, #step-short, #reaction-answer, #reaction-slow, #tool-answer, #together-list, #pane-says, '
-    + '#save-list, #tools, .number, #make-says, #blank-says, #blank-choices';
-  const ROOMS = '#pictures, .slot, .stepping, #tools-panel, #reaction-panel, #together, #live-panel, #make-panel, #blank, #run';
+    + '#save-list, #tools, .number, #make-says, #blank-says, #blank-choices, #questions';
+  const ROOMS = '#pictures, .slot, .stepping, #tools-panel, #reaction-panel, #together, #live-panel, #make-panel, #questions-panel, #blank, #run';
 
   const id = (name) => document.getElementById(name);
   const all = (selector) => [...document.querySelectorAll(selector)];
@@ -81,6 +81,11 @@ function drive() {
       id('make-told').value = 'end'; id('make-shown').click(); await settle();
       journal.value = journal.value.replaceAll('?', '? 0'); type('');
       await settle(); id('blank-tell').click();
+    },
+    question: () => id('make-question').click(),
+    answerQuestion: async () => {
+      id('make-question').click(); await settle();
+      const field = document.querySelector('#questions input'); field.value = '3'; field.dispatchEvent(new Event('change', { bubbles: true }));
     },
     badExercise: () => { journal.value = journal.value.replace('journal', 'exercise'); type(''); },
     link: () => id('link').click(),

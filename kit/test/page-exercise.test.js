@@ -134,6 +134,28 @@ test('about a topic: drawn with a seed; a table that cannot show it says why', a
   assert.equal(await paneText(tab, 'journal'), first);
 });
 
+test('a reaction time is asked: a number is given, and the page itself tells none', async (t) => {
+  const tab = await open(t, 'example=classroom');
+  const { time } = library.reaction(part('table'), 3, 1);
+  await tab.click('#make-question');
+  assert.match(await paneText(tab, 'journal'), /\nreaction from idle, busy while no_train takes \?\n$/);
+  assert.equal(await tab.text(VERDICT), 'answered 0 of 1');
+  assert.equal(await tab.value("document.getElementById('reaction-panel').checkVisibility()"), false);
+  assert.ok(!(await tab.value('document.body.innerText')).includes(`at most ${time}`));
+  await tab.press('#questions input');
+  await tab.type(String(time + 1));
+  await tab.key('Enter');
+  assert.equal(await tab.text(VERDICT), 'right 0 of 1');
+  assert.match(await says(tab), new RegExp(`The reaction time is not ${time + 1}\\..* at most ${time} until`));
+  await setPane(tab, 'journal', (await paneText(tab, 'journal')).replace(`? ${time + 1}`, `? ${time}`));
+  assert.equal(await tab.text(VERDICT), 'right 1 of 1');
+  assert.equal(await tab.value("document.querySelector('#questions input').value"), String(time));
+  await setPane(tab, 'journal', (await paneText(tab, 'journal')).replace('told at each answer', 'told at the end'));
+  assert.equal(await tab.text(VERDICT), 'answered 1 of 1');
+  await tab.press('#questions-tell');
+  assert.equal(await tab.text(VERDICT), 'right 1 of 1');
+});
+
 test('bad exercises get a sentence with their place; nothing is drawn', async (t) => {
   const tab = await open(t, 'example=classroom');
   const put = (...lines) => setPane(tab, 'journal', ['krossvil exercise', ...lines, ''].join('\n'));
@@ -165,7 +187,7 @@ test('each keystroke in an exercise of 200 records takes less than 50 ms of proc
   await setPane(tab, 'stimulus', '');
   await setPane(tab, 'journal', exerciseText(asked, slow.names).replaceAll('?', '? 0'));
   await tab.send('Performance.enable', { timeDomain: 'threadTicks' });
-  const spent = async () => (await tab.send('Performance.getMetrics')).metrics.find(({ name }) => name === 'TaskDuration').value;
+  const spent = async () => (await tab.send('Performance.getMetrics')).metrics.find(({ name }) => name === 'ScriptDuration').value;
   await caretBehind(tab, 'journal', 'poll   ? 0');
   const times = [];
   for (const key of ['1', '#', ' ', 'a', 'b', 'c', 'd', 'e']) {
