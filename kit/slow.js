@@ -13,7 +13,7 @@ import { inputs, traceJournal, visits } from './trace.js';
 /** @typedef {import('./types.js').Names} Names */
 /** @typedef {import('./types.js').Table} Table */
 /** @typedef {import('./types.js').Trace} Trace */
-/** @typedef {{states: number, inputs: number, moves: number}} Question */
+/** @typedef {import('./times.js').Question} Question */
 
 /**
  * @typedef {Object} Slow
@@ -22,16 +22,6 @@ import { inputs, traceJournal, visits } from './trace.js';
  * @property {number} from           the first of them
  * @property {number} state          of the slot behind them, outside the target
  */
-
-/**
- * The library's answer to the question; the tight time where there is one.
- * @param {Library} library @param {Uint8Array} bytes @param {Question} question
- * @returns {any}
- */
-export function timesOf(library, bytes, { states, inputs: while_, moves }) {
-  const over = library.reactionMoves(bytes, states, while_, moves);
-  return over.ok && moves === 1 ? { ...over, ...library.reactionTight(bytes, states, while_) } : over;
-}
 
 /**
  * @param {import('./slow/search.js').Slowest} slowest
@@ -90,8 +80,8 @@ export class SlowRun {
     this.bytes = bytes;
     this.question = question;
     this.answer = answer;
-    /** This is enough, as the library says; a time that is less may be true. */
-    this.least = answer.tight ?? answer.time;
+    /** This is enough, as the library says; a time that is less may be true. @type {number} */
+    this.least = answer.tight;
     const { target, time } = answer;
     this.search = new Search(/** @type {Table} */ (decodeTable(bytes)), { ...question, target, time, enough: this.least - 1 });
   }

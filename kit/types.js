@@ -306,8 +306,12 @@
  *   stimulusOf(journal: Uint8Array, form: Form): Uint8Array|null     null if something in the journal is no record
  * both-runs.js exports
  *   bothRuns(trace: Trace, own: the run as rerun gives it, options?: {width, theme, title}): string     an SVG file
+ * times.js exports
+ *   timesOf(library: Library, table: Uint8Array, question): time, tight time, target and the longest way, or the refusal
+ * sheet.js exports
+ *   sheetOf(library: Library, {table, stimulus, names?, title?, kinds?}): {ok: true, sheet} | Refused;  sheet/html.js: sheetHtml(sheet, paper?)
  * slow.js exports
- *   timesOf(library: Library, table: Uint8Array, question): the library's times;  class SlowRun: a search, go(milliseconds) and found()
+ *   class SlowRun: a search, go(milliseconds) and found()
  *   saySlow(names: Names, search: SlowRun, slow): string[]
  * exercise.js exports
  *   makeExercise(library, {table, stimulus}, {kinds?, told?}): {ok: true, asked: Asked} | Refused     what is asked, without answers

@@ -6,6 +6,7 @@ import { decodeTable } from '../fields.js';
 import { didYouMean } from '../notation/mistakes.js';
 import { writtenName } from '../notation/lexer.js';
 import { members, setOf, wholeSet } from '../sets.js';
+import { timesOf } from '../times.js';
 import { ACCEPTED, REFUSED } from './asking.js';
 import { tableRefused } from './check.js';
 import { numberOf } from './pictures.js';
@@ -87,15 +88,6 @@ export function reactionRefused(asking, source, table, question, answer) {
 }
 
 /**
- * The answer over several moves, with the tight time beside the time.
- * @param {import('../types.js').Library} library @param {Uint8Array} bytes @param {number} states @param {number} inputs @param {number} moves
- */
-function overMoves(library, bytes, states, inputs, moves) {
-  const over = library.reactionMoves(bytes, states, inputs, moves);
-  return over.ok ? { ...over, ...library.reactionTightMoves(bytes, states, inputs, moves) } : over;
-}
-
-/**
  * The table, and what is asked of it by names; null if it is refused, which is then said.
  * @param {Asking} asking
  * @returns {{source: TableSource, table: Table, states: number, inputs: number, moves: number|undefined}|null}
@@ -121,7 +113,7 @@ export function react(asking) {
   const one = (/** @type {Question} */ question, /** @type {any} */ answer) => answerOne(asking, source, table, question, answer);
   const codes = [];
   if (options.tight) codes.push(one({ states, inputs }, library.reactionTight(source.bytes, states, inputs)));
-  if (moves !== undefined) codes.push(one({ states, inputs, moves }, overMoves(library, source.bytes, states, inputs, moves)));
+  if (moves !== undefined) codes.push(one({ states, inputs, moves }, timesOf(library, source.bytes, { states, inputs, moves })));
   if (codes.length === 0) codes.push(one({ states, inputs }, library.reaction(source.bytes, states, inputs)));
   return Math.max(...codes);
 }

@@ -1,7 +1,8 @@
 /** `slow`: a run in which states and inputs stay as long as could be found, and the state is still outside the target. */
 
 import { counted } from '../names.js';
-import { SlowRun, saySlow, timesOf } from '../slow.js';
+import { SlowRun, saySlow } from '../slow.js';
+import { timesOf } from '../times.js';
 import { ACCEPTED, REFUSED } from './asking.js';
 import { deliver, namesOf, sayWritten } from './conversions.js';
 import { numberOf } from './pictures.js';

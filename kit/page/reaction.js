@@ -5,6 +5,7 @@ import { explainReaction } from '../explain.js';
 import { nameOf } from '../name-of.js';
 import { thousands } from '../names.js';
 import { members, setOf, wholeSet } from '../sets.js';
+import { timesOf } from '../times.js';
 import { fill, make } from './dom.js';
 import { SlowPanel } from './slow.js';
 
@@ -12,7 +13,7 @@ import { SlowPanel } from './slow.js';
 /** @typedef {import('../types.js').Table} Table */
 /** @typedef {import('./workspace.js').Answers} Answers */
 
-/** @typedef {{states: number, inputs: number, moves: number}} Question */
+/** @typedef {import('../times.js').Question} Question */
 /**
  * `number` is the refusal's, or 0; `question` is there where the answer is a time.
  * @typedef {{number: number, line: string, beside: string[], sentences: string[], path: number[], question?: Question}} Answer
@@ -24,23 +25,13 @@ const FIRST = { inputs: 1, moves: 1 };
 const HAS_TIMERS = 14;
 
 /**
- * Over so many moves, with the tight time beside the time.
- * @param {Library} library @param {Uint8Array} bytes @param {Question} question
- * @returns {any}
- */
-function ask(library, bytes, { states, inputs, moves }) {
-  const over = library.reactionMoves(bytes, states, inputs, moves);
-  return over.ok ? { ...over, ...library.reactionTightMoves(bytes, states, inputs, moves) } : over;
-}
-
-/**
  * The library's answer: in a few words, in sentences, and the path to be lit.
  * @param {Library} library @param {{bytes: Uint8Array, table: Table}} given  a table that passes
  * @param {Question} question
  * @returns {Answer}
  */
 export function answerReaction(library, { bytes, table }, question) {
-  const said = ask(library, bytes, question);
+  const said = timesOf(library, bytes, question);
   if (!said.ok) {
     return { number: said.number, line: refusalLine(said), beside: [], sentences: explainReaction(table, said, question).sentences, path: [] };
   }

@@ -4,7 +4,8 @@
  */
 
 import { recordsText } from '../notation.js';
-import { SlowRun, saySlow, timesOf } from '../slow.js';
+import { SlowRun, saySlow } from '../slow.js';
+import { timesOf } from '../times.js';
 import { fill, make } from './dom.js';
 
 /** @typedef {import('../types.js').Library} Library */
