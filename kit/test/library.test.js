@@ -219,5 +219,5 @@ test("the header has the package's version", () => {
 test('every function of the header was called', () => {
   const declared = [...header.matchAll(/^uint64_t (krossvil_[a-z_]*)\(/gm)].map(([, name]) => name);
   assert.deepEqual(declared.filter((name) => !called.has(name)), []);
-  assert.equal(declared.length, 15);
+  assert.equal(declared.length, 16);
 });
