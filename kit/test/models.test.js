@@ -24,8 +24,8 @@ const tablesFor = (chance, count) => [tableOf('classroom'), tableOf('gas-burner'
 /** Which record an edge makes; null for the change to the same input, and where a move would be too soon. */
 function recordOf(walk, { name, edge, a }) {
   if (name === 'Environment') return edge.from === 'Begin' ? { kind: 'input', value: a } : { kind: 'change', value: a };
-  if (edge.to === 'Test') return { kind: 'poll', value: walk.values.present };
-  if (edge.to === 'Held' || edge.to === 'Free') return { kind: 'test', value: Number(edge.to === 'Free') };
+  if (edge.to.startsWith('Test')) return { kind: 'poll', value: walk.values.present };
+  if (edge.from.startsWith('Test')) return { kind: 'test', value: Number(edge.to.startsWith('Free')) };
   return { kind: 'tick', value: null };
 }
 
@@ -112,7 +112,7 @@ test('a guard, a reset or an invariant that is changed in the file is noticed', 
   };
   const file = uppaal(table);
   assert.equal(goesWrong(file), false);
-  for (const [old, by] of [['y &lt;= hold[state]', 'y &lt; hold[state]'], ['y = 0, z = 0', 'z = 0'], ['x &gt; 0 &amp;&amp; z &gt; 0', 'x &gt; 1 &amp;&amp; z &gt; 0'],
+  for (const [old, by] of [['y &lt;= hold[1]', 'y &lt; hold[1]'], ['y = 0, z = 0', 'z = 0'], ['x &gt; 0 &amp;&amp; z &gt; 0', 'x &gt; 1 &amp;&amp; z &gt; 0'],
     ['polled = present', 'polled = 0'], ['z &lt;= E', 'z &lt; E']]) {
     assert.ok(file.includes(old), old);
     assert.equal(goesWrong(file.replaceAll(old, by)), true, old);
