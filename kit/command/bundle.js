@@ -65,7 +65,7 @@ function wrap(source, valueOf, laterOf) {
     })
     .replace(LATER, (_, from) => `async () => ${laterOf(from)}`)
     .replaceAll('import.meta.url', 'here');
-  const odd = /^(import|export)\b.*$/m.exec(body);
+  const odd = /^(import|export)\b(?!:).*$/m.exec(body); // a name of a command may be such a word
   if (odd) throw new Error(`not understood: ${odd[0]}`);
   return `once(() => {\n${body}\nreturn { ${exported.join(', ')} };\n})`;
 }
