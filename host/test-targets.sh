@@ -210,7 +210,7 @@ try_stack() {
         if [ -e "$out/stack" ]; then join "$out/stack" "$folder/most"; else cat "$folder/most"; fi >"$out/stack.more"
         mv "$out/stack.more" "$out/stack"
     done
-    awk '{ printf "%-14s", $1; for (k = 2; k <= NF; k++) printf " %11s", $k; print "" }' "$out/stack"
+    awk '{ printf "%-20s", $1; for (k = 2; k <= NF; k++) printf " %11s", $k; print "" }' "$out/stack"
 }
 
 rm -rf "$out"
