@@ -333,7 +333,7 @@ test('the panel says in words why no reaction time is given', async (t) => {
     assert.match(await askReaction(tab, { states: 3, inputs: 1, moves }), says, moves);
     assert.deepEqual(await litPath(tab), { states: [], edges: [] }, moves);
   }
-  assert.match(await askReaction(tab, { states: 3, inputs: 1, moves: 0 }), /^at most 3until.* over 0 moves/);
+  assert.match(await askReaction(tab, { states: 3, inputs: 1, moves: 0 }), /^at most 3tight 3, in whole unitsuntil.* over 0 moves/);
 });
 
 test('a table with timers has the reason in the place of the form', async (t) => {
@@ -352,7 +352,7 @@ test('an example opens with the question that it promises, and the next one with
   const asked = async () => [await tab.value("document.getElementById('reaction-moves').value"),
     await tab.value("[...document.querySelectorAll('#reaction-inputs input')].map(({ checked }) => Number(checked)).join('')")].join(' ');
   assert.equal(await asked(), '3 10');
-  assert.match(await tab.text('#reaction-answer'), new RegExp(`^at most ${library.reactionMoves(tableOf('mixer'), 31, 1, 3).time}until: idle`));
+  assert.match(await tab.text('#reaction-answer'), /^at most 61tight 57, in whole unitsuntil: idle/);
   for (const [name, question] of [['classroom', '1 10'], ['stutter-filter', '1 01'], ['mixer', '3 10']]) {
     await choose(tab, name);
     assert.equal(await asked(), question, name);
