@@ -22,7 +22,7 @@ finish() {
 
 # The programs that the kit and its tests call, each with the package that has it.
 tools=(node:nodejs tsc:node-typescript chromium:chromium rsvg-convert:librsvg2-bin dot:graphviz xmllint:libxml2-utils script:bsdutils
-    groff:groff-base pdftotext:poppler-utils lintian:lintian)
+    groff:groff-base pdftotext:poppler-utils lintian:lintian rustc:rustc)
 
 lacking() { # the tools that are not here
     for tool in "${tools[@]}"; do
