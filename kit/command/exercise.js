@@ -4,16 +4,16 @@ import { exerciseAbout, CYCLES_MOST, topicOf } from '../exercise/about.js';
 import { TOPICS } from '../exercise/topics.js';
 import { makeExercise, openExercise } from '../exercise.js';
 import { decodeTable } from '../fields.js';
-import { counted, listed } from '../names.js';
+import { counted } from '../names.js';
 import { exerciseText, tableText } from '../notation.js';
 import { TOLD } from '../notation/exercise.js';
-import { didYouMean } from '../notation/mistakes.js';
 import { ASKED } from '../notation/records.js';
 import { ACCEPTED, REFUSED } from './asking.js';
 import { tableRefused } from './check.js';
 import { answersFrom, gradeGiven } from './exercise-answers.js';
 import { numberOf } from './pictures.js';
 import { setFrom } from './react.js';
+import { oneOf } from './one-of.js';
 import { tell, told } from './refusals.js';
 import { Trouble } from './trouble.js';
 import { put } from './writing.js';
@@ -24,15 +24,6 @@ import { put } from './writing.js';
 /** @typedef {import('../types.js').ExercisePart} ExercisePart */
 
 const SEEDS = 1000000;
-
-/**
- * A word among those that an option takes.
- * @param {string} option @param {string} word @param {string[]} words
- */
-function oneOf(option, word, words) {
-  if (!words.includes(word)) throw new Trouble(`--${option} takes ${listed(words, 'or')}, not '${word}'${didYouMean(word, words)}`);
-  return word;
-}
 
 /**
  * @param {string} option @param {string|undefined} text @param {number} least @param {number} most

@@ -1,12 +1,11 @@
 /** `sheet`: a worksheet of a run and its solutions, for a browser or as PDF. */
 
-import { listed } from '../names.js';
-import { didYouMean } from '../notation/mistakes.js';
 import { ASKED } from '../notation/records.js';
 import { PAPERS, sheetHtml } from '../sheet/html.js';
 import { sheetOf } from '../sheet.js';
 import { ACCEPTED, REFUSED } from './asking.js';
 import { tableRefused } from './check.js';
+import { oneOf } from './one-of.js';
 import { titleOf } from './pictures.js';
 import { tell, told } from './refusals.js';
 import { shownFile } from './sources.js';
@@ -15,14 +14,6 @@ import { endingOf, put } from './writing.js';
 
 /** @typedef {import('./asking.js').Asking} Asking */
 /** @typedef {import('../types.js').Kind} Kind */
-
-/**
- * @param {string} option @param {string} word @param {string[]} words
- */
-function oneOf(option, word, words) {
-  if (!words.includes(word)) throw new Trouble(`--${option} takes ${listed(words, 'or')}, not '${word}'${didYouMean(word, words)}`);
-  return word;
-}
 
 /** @param {Asking} asking @param {string} html */
 function asPaper({ io }, html) {

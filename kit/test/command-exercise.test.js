@@ -113,3 +113,17 @@ test('what is wrong is said at its place', async () => {
   const refused = await ask(words('exercise mine.kv'), { 'mine.kv': sample('classroom').replace(' 6  tick\n', ' 9  tick\n') });
   assert.deepEqual([refused.code, /^refused 25 at \d+/.test(refused.err)], [1, true]);
 });
+
+test('a worksheet and its solutions: the first has no answer; on a size of paper; nothing of a stimulus that is refused', async () => {
+  const files = { 'classroom.kv': sample('classroom'), 'late.kv': sample('classroom').replace('krossvil stimulus', 'krossvil stimulus # late').replace(/^ 2 {2}poll$/m, ' 9  poll') };
+  const { code, files: written } = await ask(['sheet', 'classroom.kv', '-o', 'sheet.html', '--paper', 'letter', '--title', 'Trains'], files);
+  const [, work, solved] = String(written['sheet.html']).split('<section');
+  assert.equal(code, 0);
+  assert.match(String(written['sheet.html']), /@page \{ size: letter;/);
+  assert.ok(work.includes('<h1>Trains</h1>') && !/<b>(held|free|idle|busy)<\/b>/.test(work));
+  assert.deepEqual([...solved.matchAll(/<b>(\w+)<\/b>/g)].map(([, word]) => word), ['free', 'busy', 'held', 'busy', 'held', 'busy', 'free', 'idle']);
+  assert.match(String((await ask(['sheet', 'classroom.kv', '-o', 'sheet.pdf'], files)).files['sheet.pdf']), /^%PDF/);
+  assert.match((await ask(['sheet', 'classroom.kv', '--paper', 'A5'], files)).err, /--paper takes A4 or letter, not 'A5'/);
+  const late = await ask(['sheet', 'late.kv', '-o', 'late.html'], files);
+  assert.deepEqual([late.code, late.files['late.html'], /^refused \d+ at /.test(late.out)], [1, undefined, true]);
+});
