@@ -1,4 +1,4 @@
-// What one step of the machine asks of a table, read where it stands in bytes that passed: no table is made of them.
+// What the machine and the calculators ask of a table, read where it stands in bytes that passed: no table is made of them.
 ghost use mathlib.Core.Path.{_≡_};
 ghost use Prim.Native.Nat.{_+_, _*_, _<_, _≤_};
 ghost use lib.ListN.{length, getD};

@@ -1,4 +1,5 @@
 pub mod Bits
 pub mod Smallest
 pub mod Members
+pub mod Turned
 pub mod Walk

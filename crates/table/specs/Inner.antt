@@ -1,9 +1,8 @@
 -- What the inner functions of the table check are told and find, which go by places and tags: a helper of contracts, no rule.
 use mathlib.Core.Path.{_≡_}
 use mathlib.Core.List.{List}
-use Prim.Native.Nat.{ℕ, _*_, _≤_}
+use Prim.Native.Nat.{ℕ, _*_, _<_, _≤_}
 use Rattle.wire.specs.Choice.{_=?_, if_then_else_}
-use Rattle.sets.specs.Sets.{member, some}
 use Rattle.table.specs.declared.Answer.{Answer}
 use Rattle.table.specs.declared.Answer.the-variants.{EntryOutOfRange, HoldTooLong, UnknownMember}
 use Rattle.table.specs.declared.Counts.{Counts}
@@ -33,6 +32,6 @@ wordRow at tag n limit = record { at = at; tag = tag; entries = n; limit = limit
 abbrev pub idleSet : List ℕ → (holds at state : ℕ) → ℕ
 idleSet s holds at state = if wordEntry s holds state =? 0 then wordEntry s at state else 0
 
--- The members of all of the first n sets together.
-abbrev pub UnionOf : (n : ℕ) → (ℕ → ℕ) → ℕ → Type 0
-UnionOf n sets all = (i : ℕ) → member all i ≡ some n (λ k. member (sets k) i)
+-- None of the first n words is larger.
+abbrev pub Ceiling : (n : ℕ) → (ℕ → ℕ) → ℕ → Type 0
+Ceiling n words top = (k : ℕ) → k < n → words k ≤ top

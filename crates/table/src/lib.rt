@@ -49,12 +49,12 @@ pub struct Table {
     pub outputs: u32,
     pub initial: u32,
     pub bound: u32,
+    // 0 in a table with holds; in one with timers all holds and delayed sets are 0.
+    pub timers: u32,
     pub output: [u8; 32],
     pub next: [u8; 1024],
     pub hold: [u32; 32],
     pub delayed: [u32; 32],
-    // 0 in a table with holds; in one with timers all holds and delayed sets are 0.
-    pub timers: u32,
     // Of timer k the length at 2 * k, and then the region.
     pub timing: [u32; 8],
     // Rows by state: the inputs that timer k delays in state q stand at q * timers + k.
@@ -382,11 +382,11 @@ pub fn read(s: &[u8]) -> Table
         outputs: c.outputs as u32,
         initial: c.initial as u32,
         bound: number32(s, 10),
+        timers: timers as u32,
         output: [0u8; 32],
         next: [0u8; 1024],
         hold: [0u32; 32],
         delayed: [0u32; 32],
-        timers: timers as u32,
         timing: [0u32; 8],
         sets: [0u32; 128],
     };

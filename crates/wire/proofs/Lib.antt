@@ -4,4 +4,5 @@ pub mod Laws
 pub mod Bytes
 pub mod Placed
 pub mod Standing
+pub mod Turned
 pub mod Made

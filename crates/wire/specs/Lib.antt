@@ -3,4 +3,5 @@ pub mod Reply
 pub mod Field
 pub mod Encode
 pub mod Standing
+pub mod Turned
 pub mod Made

@@ -33,7 +33,7 @@ timers-in-requires c κs =
 number32-requires : tie.Need-number32-requires
 number32-requires c κs = omega (arith, known (c .before .before .before .before) .fifth)
 
-cast-timers : tie.Need-cast-t17
+cast-timers : tie.Need-cast-t13
 cast-timers c = omega (arith, known (c .before .before .before .before .before) .few)
 
 fill-output-requires : tie.Need-fill-output-requires

@@ -1,10 +1,9 @@
 -- The loop keeps `Checking`; each way out is one of its laws.
-use mathlib.Core.Path.{refl, sym, _∙_}
+use mathlib.Core.Path.{refl}
 use Prim.Native.Nat.{_+_, _-_}
 use Rattle.table.specs.declared.Answer.the-variants.{EntryOutOfRange}
 use Rattle.table.specs.Check.{below, byteEntry}
 use Rattle.table.proofs.Answers.{let-pass}
-use Rattle.table.proofs.AtOnce.{each-below}
 use Rattle.table.proofs.Rows.{Checking, field-stands, no-field, none-checked, all-good, all-checked, bad-entry, good-entry, is-called, is-below}
 use borrow.Author.Needs.{needs}
 use Rattle.table.proofs.fields.check_bytes.Statement.{statement}
@@ -22,12 +21,11 @@ all-below-requires c κs = field-stands _ _ _ _ (let-pass (c .before .before .ex
 returns : tie.Need-returns Inv-loop μ-loop
 returns c = no-field _ _ _ _ _ _ _ (c .before .expect-field .ensures) (c .match .keys2)
 
--- The largest entry is below the limit, so that each is.
 returns-2 : tie.Need-returns-2 Inv-loop μ-loop
 returns-2 c =
     let told = c .before .before .before in
     all-good _ _ _ _ _ _ _ (told .before .expect-field .ensures) (told .match .keys1)
-    (λ k h. is-below _ _ _ k (each-below _ _ _ _ (sym (c .before .all-below .ensures) ∙ c .if1 .taken) k h))
+    (λ k h. is-below _ _ _ k (c .before .all-below .ensures (c .if1 .taken) k h))
 
 loop-holds : tie.Need-loop-holds Inv-loop μ-loop
 loop-holds c =

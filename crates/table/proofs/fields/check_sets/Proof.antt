@@ -3,7 +3,6 @@ use Prim.Native.Nat.{_-_, _*_}
 use native.Mathlib.Omega.{arith}
 use Rattle.table.specs.Check.{setEntry}
 use Rattle.table.proofs.Answers.{let-pass}
-use Rattle.table.proofs.AtOnce.{sets-pass}
 use Rattle.table.proofs.Rows.{Checking, field-stands, no-field, none-checked, all-good, all-checked, refused-entry, passed-entry}
 use borrow.Author.Needs.{needs}
 use Rattle.table.proofs.fields.check_sets.Statement.{statement}
@@ -15,8 +14,8 @@ Inv-loop s holds at n limit old k₀ k = Checking s at 0x06 (4 * n) (setEntry ol
 abbrev μ-loop : tie.MeasureT-loop
 μ-loop s holds at n limit old k₀ k = n - k
 
-all-delayed-requires : tie.Need-all-delayed-requires Inv-loop μ-loop
-all-delayed-requires c κs =
+all-allowed-requires : tie.Need-all-allowed-requires Inv-loop μ-loop
+all-allowed-requires c κs =
     let told = c .before .before in
     let room = field-stands _ _ _ _ (let-pass (told .expect-field .ensures) (c .before .match .keys1)) .fits in
     (omega (arith, told .before .before .pre), room)
@@ -24,18 +23,14 @@ all-delayed-requires c κs =
 returns : tie.Need-returns Inv-loop μ-loop
 returns c = no-field _ _ _ _ _ _ _ (c .before .expect-field .ensures) (c .match .keys2)
 
--- No set is too large, and none is idle.
 returns-2 : tie.Need-returns-2 Inv-loop μ-loop
 returns-2 c =
-    let sets = c .before .before .before in
-    let told = sets .before .before in
-    let args = told .before .before .before .args in
-    all-good _ _ _ _ _ _ _ (told .before .expect-field .ensures) (told .match .keys1)
-    (sets-pass _ (args .s .now) (args .holds) (args .at) _ _ _ _ (sets .all-delayed .ensures .0) (sets .all-delayed .ensures .1) (c .if1 .taken))
+    let told = c .before .before .before in
+    all-good _ _ _ _ _ _ _ (told .before .expect-field .ensures) (told .match .keys1) (c .before .all-allowed .ensures (c .if1 .taken))
 
 loop-holds : tie.Need-loop-holds Inv-loop μ-loop
 loop-holds c =
-    let told = c .before .before .before .before in
+    let told = c .before .before in
     none-checked _ _ _ _ _ _ _ (told .before .before .expect-field .ensures) (told .before .match .keys1)
 
 returns-3 : tie.Need-returns-3 Inv-loop μ-loop
@@ -51,7 +46,6 @@ returns-4 c = all-checked (c .before .loop .inv) (search needs)
 
 pub check-sets-spec : {M : Type 1} → statement M
 check-sets-spec = tie.close
-    (tie.spec Inv-loop μ-loop (λ c. search needs) (λ c κs. search needs) (λ c. search needs) returns all-delayed-requires
-    (λ c. search needs) returns-2 loop-holds (λ c. search needs) (λ c. search needs) (λ c. search needs) (λ c. search needs)
-    (λ c. search needs) (λ c. search needs) (λ c κs. search needs) (λ c. search needs) returns-3 (λ c. search needs) (λ c. search needs)
-    loop-again returns-4)
+    (tie.spec Inv-loop μ-loop (λ c. search needs) (λ c κs. search needs) (λ c. search needs) returns all-allowed-requires returns-2 loop-holds
+    (λ c. search needs) (λ c. search needs) (λ c. search needs) (λ c. search needs) (λ c. search needs) (λ c. search needs) (λ c κs. search needs)
+    (λ c. search needs) returns-3 (λ c. search needs) (λ c. search needs) loop-again returns-4)

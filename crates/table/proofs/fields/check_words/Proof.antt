@@ -3,7 +3,8 @@ use mathlib.Core.Path.{_∙_}
 use Prim.Native.Nat.{_+_, _-_, _*_}
 use Rattle.table.specs.Check.{below, wordEntry}
 use Rattle.table.specs.Inner.{badWord}
-use Rattle.table.proofs.Rows.{Checking, no-field, none-checked, all-checked, bad-entry, good-entry, is-called, is-below, bad-word-refuses}
+use Rattle.table.proofs.Answers.{let-pass}
+use Rattle.table.proofs.Rows.{Checking, field-stands, no-field, none-checked, all-good, all-checked, bad-entry, good-entry, is-called, is-below, bad-word-refuses}
 use borrow.Author.Needs.{needs}
 use Rattle.table.proofs.fields.check_words.Statement.{statement}
 use Rattle.table.proofs.fields.check_words.Tie as tie
@@ -14,23 +15,36 @@ Inv-loop s at tag n limit k₀ k = Checking s at tag (4 * n) (below limit (wordE
 abbrev μ-loop : tie.MeasureT-loop
 μ-loop s at tag n limit k₀ k = n - k
 
+all-within-requires : tie.Need-all-within-requires Inv-loop μ-loop
+all-within-requires c κs = field-stands _ _ _ _ (let-pass (c .before .before .expect-field .ensures) (c .before .match .keys1)) .fits
+
 returns : tie.Need-returns Inv-loop μ-loop
 returns c = no-field _ _ _ _ _ _ _ (c .before .expect-field .ensures) (c .match .keys2)
 
-loop-holds : tie.Need-loop-holds Inv-loop μ-loop
-loop-holds c = none-checked _ _ _ _ _ _ _ (c .before .before .expect-field .ensures) (c .before .match .keys1)
-
 returns-2 : tie.Need-returns-2 Inv-loop μ-loop
 returns-2 c =
+    let told = c .before .before .before in
+    all-good _ _ _ _ _ _ _ (told .before .expect-field .ensures) (told .match .keys1)
+    (λ k h. is-below _ _ _ k (c .before .all-within .ensures (c .if1 .taken) k h))
+
+loop-holds : tie.Need-loop-holds Inv-loop μ-loop
+loop-holds c =
+    let told = c .before .before in
+    none-checked _ _ _ _ _ _ _ (told .before .before .expect-field .ensures) (told .before .match .keys1)
+
+returns-3 : tie.Need-returns-3 Inv-loop μ-loop
+returns-3 c =
     let is = c .bad-word .ensures in
     bad-entry (c .before .before .before .before .loop .inv) (search needs) _ (is ∙ is-called _ _ _ _ (search needs)) (rw is (bad-word-refuses _ _))
 
 loop-again : tie.Need-loop-again Inv-loop μ-loop
 loop-again c = good-entry (c .before .before .before .loop .inv) (search needs) (is-below _ _ _ _ (search needs))
 
-returns-3 : tie.Need-returns-3 Inv-loop μ-loop
-returns-3 c = all-checked (c .before .loop .inv) (search needs)
+returns-4 : tie.Need-returns-4 Inv-loop μ-loop
+returns-4 c = all-checked (c .before .loop .inv) (search needs)
 
 pub check-words-spec : {M : Type 1} → statement M
 check-words-spec = tie.close
-    (tie.spec Inv-loop μ-loop (λ c. search needs) (λ c κs. search needs) (λ c. search needs) returns loop-holds (λ c. search needs) (λ c. search needs) (λ c. search needs) (λ c κs. search needs) (λ c. search needs) (λ c κs. search needs) returns-2 (λ c. search needs) (λ c. search needs) loop-again returns-3)
+    (tie.spec Inv-loop μ-loop (λ c. search needs) (λ c κs. search needs) (λ c. search needs) returns all-within-requires returns-2 loop-holds
+    (λ c. search needs) (λ c. search needs) (λ c. search needs) (λ c κs. search needs) (λ c. search needs) (λ c κs. search needs) returns-3
+    (λ c. search needs) (λ c. search needs) loop-again returns-4)
