@@ -7,6 +7,7 @@ pub mod Written
 pub mod Places
 pub mod Passing
 pub mod Fields
+pub mod AnyReader
 pub mod JournalReader
 pub mod StampReader
 pub mod StimulusReader
