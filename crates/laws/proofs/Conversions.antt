@@ -36,6 +36,7 @@ use Rattle.reaction.specs.Reaction.{forHolds, reactionOf, reactOf}
 use Rattle.reaction.proofs.Entry.{has-holds}
 use Rattle.moves.specs.Moves.{judge, judgeOf, movesOf, sumsAfter, pathAfter}
 use Rattle.tight.specs.Tight.{reactTightOf}
+use Rattle.tight.specs.Several.{roomForSums, roomForPath, tightMovesOf}
 use Rattle.runtime.specs.Run.{runOf, madeOfRun}
 use Rattle.laws.specs.Conversions.{conversionAnswer, newTable, ConvertsFaithfully, PassingComesBack, ConvertsOnce}
 use Rattle.laws.proofs.Rows.{front, same-array}
@@ -50,6 +51,7 @@ use Rattle.laws.proofs.Emptied.{
   over-same,
   rows-over-same,
   path-over-same,
+  tight-over-same,
 }
 
 -- ---- The emptied table is well formed
@@ -221,7 +223,7 @@ module _ (new : List ℕ) (t : Table) (passes : tableAnswer new ≡ Passes) (rea
   under-holds none timers under = under-read (forHolds timers under) ∙ has-holds timers under t none
 
 pub converts-faithfully : ConvertsFaithfully
-unfolding checkIn runOf reactOf reactTightOf judgeOf movesOf sumsAfter pathAfter
+unfolding checkIn runOf reactOf reactTightOf judgeOf movesOf sumsAfter pathAfter tightMovesOf
 converts-faithfully old buffer changed c =
     let done = succeeded old buffer changed (c .succeeds) in
     let passes = done .0 in
@@ -251,6 +253,7 @@ converts-faithfully old buffer changed c =
         rw (judged P A n (length sums) (length path), read, rows-over-same t few uses none P A n sums) refl,
         rw (judged P A n (length sums) (length path), read, path-over-same t few uses none P A n path) refl,
       ),
+      λ P A n. rw (judged P A n roomForSums roomForPath, read, tight-over-same t few uses none P A n) refl,
     )
 
 -- ---- A table that passes

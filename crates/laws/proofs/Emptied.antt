@@ -31,6 +31,7 @@ use Rattle.machine.specs.Walk.{RunOverBytes, ran, tooLong, refused, inTable, fi
 use Rattle.journal.specs.Check.{answerOfRun, checkUnder}
 use Rattle.reaction.specs.Reaction.{nextSet, offTarget, weightOf, fromHold, weight, reactionTime, firstLeaving, reactionOf}
 use Rattle.tight.specs.Tight.{needOf, tightTime}
+use Rattle.tight.specs.Several.{tightWeight, tightTimeOver, timesOver}
 use Rattle.moves.specs.Moves.{nextTimes, mostAhead, round, sumsOf, rows, pathFrom, largestSum, worstStart, worstPath, judge, reactionOver, sumsOver, pathOver}
 use Rattle.convert.specs.Convert.{newSet, emptied}
 
@@ -191,6 +192,10 @@ module _ (t : Table) (few : t .states ≤ 32) (uses : Uses (t .states) 32 (t .de
   unfolding needOf emptied
   needs-same A = fun-ext (λ p. ap (λ held. if held then holdOf t p + 3 * t .bound - 2 else 2 * t .bound - 1) (from-hold-same A p))
 
+  tight-weights-same : (A : ℕ) → tightWeight t′ A ≡ tightWeight t A
+  unfolding tightWeight emptied
+  tight-weights-same A = fun-ext (λ p. ap (λ held. if held then holdOf t p + 2 * t .bound - 1 else t .bound) (from-hold-same A p))
+
   -- One move.
   time-same : (P A : ℕ) → reactionTime t′ P A ≡ reactionTime t P A
   unfolding reactionTime nextSet emptied
@@ -256,3 +261,7 @@ module _ (t : Table) (few : t .states ≤ 32) (uses : Uses (t .states) 32 (t .de
     pub path-over-same : (path : List ℕ) → pathOver t′ P A n path ≡ pathOver t P A n path
     unfolding pathOver
     path-over-same path = rw (target-same P A n, path-same P A (nextTimes t P A n) (weights-same A) n) refl
+
+    pub tight-over-same : timesOver t′ P A n ≡ timesOver t P A n
+    unfolding timesOver tightTimeOver emptied
+    tight-over-same = rw (over-same, target-same P A n, largest-same P A (nextTimes t P A n) (tight-weights-same A) n) refl

@@ -19,6 +19,9 @@ use Rattle.moves.specs.Answer.{judgedPasses?}
 use Rattle.moves.specs.Moves.{judge, reactionOver, sumsOver, pathOver, movesOf, sumsAfter, pathAfter}
 use Rattle.tight.specs.declared.Answer as tight
 use Rattle.tight.specs.Tight.{tightTime, beside, reactTightOf}
+use Rattle.tight.specs.declared.over_moves.Over.{Over}
+use Rattle.tight.specs.declared.over_moves.Over.the-variants as tight-over
+use Rattle.tight.specs.Several.{timesOver, roomForSums, roomForPath, tightMovesOf}
 use Rattle.runtime.specs.Run.{madeUnder, runOf}
 use Rattle.convert.specs.declared.Answer.{Answer}
 use Rattle.convert.specs.declared.Answer.the-variants.{Converted, BufferTooShort}
@@ -55,6 +58,10 @@ module _ (t : Table) (P A n : ℕ) where
   abbrev pub pathUnder : (sums : ℕ) (path : List ℕ) → List ℕ
   pathUnder sums path = if judgedPasses? (judge t P A n sums (length path)) then pathOver t P A n path else path
 
+  -- And the answer with the tight time over them.
+  abbrev pub tightMovesUnder : Over
+  tightMovesUnder = let judged = judge t P A n roomForSums roomForPath in if judgedPasses? judged then timesOver t P A n else tight-over.Refused judged
+
 -- ---- The theorems
 
 module _ (old buffer : List ℕ) where
@@ -78,17 +85,22 @@ module _ (old buffer : List ℕ) where
   abbrev pub SameTightTimes : Type 0
   SameTightTimes = (P A : ℕ) → reactTightOf (newTable old buffer) P A ≡ tightUnder (tableIn old) P A
 
-  -- and for every number of moves, with the sums and the path that it writes.
+  -- for every number of moves, with the sums and the path that it writes,
   abbrev pub SameMoves : Type 0
   SameMoves = (P A n : ℕ) (sums path : List ℕ) →
       (movesOf (newTable old buffer) P A n (length sums) (length path) ≡ movesUnder (tableIn old) P A n (length sums) (length path))
       × (sumsAfter (newTable old buffer) P A n sums (length path) ≡ sumsUnder (tableIn old) P A n sums (length path))
       × (pathAfter (newTable old buffer) P A n (length sums) path ≡ pathUnder (tableIn old) P A n (length sums) path)
 
+  -- and with the tight time over them.
+  abbrev pub SameTightMoves : Type 0
+  SameTightMoves = (P A n : ℕ) → tightMovesOf (newTable old buffer) P A n ≡ tightMovesUnder (tableIn old) P A n
+
 -- Whatever it converts behaves as before.
 abbrev pub ConvertsFaithfully : Type 0
 ConvertsFaithfully = (old buffer : List ℕ) (changed : ℕ) → Converts old buffer changed →
     NowPasses old buffer × SameJournals old buffer × SameRuns old buffer × SameReactions old buffer × SameTightTimes old buffer × SameMoves old buffer
+    × SameTightMoves old buffer
 
 -- A table with holds that passes the check comes back byte for byte, with 0, in every buffer that has room.
 abbrev pub PassingComesBack : Type 0
