@@ -3,7 +3,7 @@
  */
 import { escapeXml } from './escape.js';
 
-const FONT = "'DejaVu Sans', Verdana, 'Segoe UI', Roboto, Arial, sans-serif";
+export const FONT = "'DejaVu Sans', Verdana, 'Segoe UI', Roboto, Arial, sans-serif";
 
 /**
  * Markup that one of these functions made. It is a class of its own, so that text is never taken for markup.

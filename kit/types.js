@@ -309,7 +309,8 @@
  * times.js exports
  *   timesOf(library: Library, table: Uint8Array, question): time, tight time, target and the longest way, or the refusal
  * sheet.js exports
- *   sheetOf(library: Library, {table, stimulus, names?, title?, kinds?}): {ok: true, sheet} | Refused;  sheet/html.js: sheetHtml(sheet, paper?)
+ *   sheetOf(library: Library, {table, stimulus, names?, title?, kinds?}): {ok: true, sheet} | Refused
+ *   sheet/sections.js: sheetSections(sheet), in HTML, for command and page;  sheet/html.js: sheetHtml(sheet, paper?), as a file
  * slow.js exports
  *   class SlowRun: a search, go(milliseconds) and found()
  *   saySlow(names: Names, search: SlowRun, slow): string[]

@@ -1,4 +1,4 @@
-/** Elements of the page. Whatever is shown goes in as text, never as markup; only pictures, whose names are escaped, are parsed. */
+/** Elements of the page. Whatever is shown goes in as text, never as markup; only pictures and worksheets, whose words are escaped, are parsed. */
 
 import { visible } from '../escape.js';
 

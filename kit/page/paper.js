@@ -105,7 +105,7 @@ export function writePaper(page) {
   const room = byId('paper');
   room.textContent = 'Nothing is answered.';
   const sheets = page.sheets.ready();
-  if (sheets) return fill(room, ...sheets);
+  if (sheets) return void (room.innerHTML = sheets);
   const { answers, subject, said, texts, title, step: { selected } } = page;
   if (said === UNSAID) return fill(room, make('h1', {}, title), make('p', {}, byId('answer').innerText));
   const step = subject?.trace.steps[selected ?? -1] ?? null;

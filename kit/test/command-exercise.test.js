@@ -116,11 +116,11 @@ test('what is wrong is said at its place', async () => {
 
 test('a worksheet and its solutions: the first has no answer; on a size of paper; nothing of a stimulus that is refused', async () => {
   const files = { 'classroom.kv': sample('classroom'), 'late.kv': sample('classroom').replace('krossvil stimulus', 'krossvil stimulus # late').replace(/^ 2 {2}poll$/m, ' 9  poll') };
-  const { code, files: written } = await ask(['sheet', 'classroom.kv', '-o', 'sheet.html', '--paper', 'letter', '--title', 'Trains'], files);
+  const { code, files: written } = await ask(['sheet', 'classroom.kv', '-o', 'sheet.html', '--paper', 'letter', '--title', '<i>Trains'], files);
   const [, work, solved] = String(written['sheet.html']).split('<section');
   assert.equal(code, 0);
   assert.match(String(written['sheet.html']), /@page \{ size: letter;/);
-  assert.ok(work.includes('<h1>Trains</h1>') && !/<b>(held|free|idle|busy)<\/b>/.test(work));
+  assert.ok(work.includes('<h1>&lt;i&gt;Trains</h1>') && !/<b>(held|free|idle|busy)<\/b>/.test(work));
   assert.deepEqual([...solved.matchAll(/<b>(\w+)<\/b>/g)].map(([, word]) => word), ['free', 'busy', 'held', 'busy', 'held', 'busy', 'free', 'idle']);
   assert.match(String((await ask(['sheet', 'classroom.kv', '-o', 'sheet.pdf'], files)).files['sheet.pdf']), /^%PDF/);
   assert.match((await ask(['sheet', 'classroom.kv', '--paper', 'A5'], files)).err, /--paper takes A4 or letter, not 'A5'/);

@@ -12,6 +12,8 @@ import { choose, expected, open, paneText, setPane } from './page-world.js';
 const SHEETS = [['A4', 8.27, 11.69], ['letter', 8.5, 11]].flatMap(([name, paperWidth, paperHeight]) =>
   [false, true].map((landscape) => ({ name: `${name} ${landscape ? 'across' : 'upright'}`, paperWidth, paperHeight, landscape })));
 
+const UPRIGHT = SHEETS.filter(({ landscape }) => !landscape);
+
 const plain = (text) => text.replace(/\s+/g, ' ').trim();
 
 /** Words of a printed page with their sides, in shares of the sheet. */
@@ -114,7 +116,7 @@ test('a table alone, and a journal of 64 KB, are printed in full', async (t) => 
 
 test('a worksheet and its solutions are printed, on A4 and letter, and then the page again', async (t) => {
   const tab = await open(t, 'example=classroom');
-  for (const sheet of SHEETS.filter(({ landscape }) => !landscape)) {
+  for (const sheet of UPRIGHT) {
     await tab.click('#make-sheet');
     const { text, pages } = await printed(t, tab, sheet);
     assert.ok(pages.length <= 3, sheet.name);
@@ -129,4 +131,16 @@ test('a worksheet and its solutions are printed, on A4 and letter, and then the 
   }
   await setPane(tab, 'journal', `${await paneText(tab, 'journal')}# more\n`);
   assert.match((await printed(t, tab)).text, /accepted end=12/);
+});
+
+test('on a worksheet the run of five states stands below them, in words that can be read', async (t) => {
+  const tab = await open(t, 'example=mixer');
+  await tab.click('#tab-stimulus');
+  await setPane(tab, 'stimulus', 'krossvil stimulus\ninput stop\n1 poll\n1 test\n2 tick\n2 end\n');
+  for (const sheet of UPRIGHT) {
+    await tab.click('#make-sheet');
+    const [first] = (await printed(t, tab, sheet)).pages;
+    assert.ok(axisOf([first]).length > 0 && first.some(({ text }) => text === 'rinsing'), sheet.name);
+    assert.ok(first.every(({ size }) => size >= 7), `${sheet.name}: words that are too small`);
+  }
 });

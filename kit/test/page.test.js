@@ -408,9 +408,16 @@ test('where the page comes from a server the link is enough', async (t) => {
 
 const HOSTILE = '<img src=x onerror="window.harm=1">';
 
+/** The table's text on worksheet and solutions, as they would be printed, and what stands there as an element although it is a name. */
+async function worksheet(tab) {
+  await tab.click('#make-sheet');
+  return tab.value(`(() => { dispatchEvent(new Event('beforeprint')); const all = (selector) => [...document.querySelectorAll(selector)];
+    return { texts: all('#paper pre').map((each) => each.textContent), odd: all('#paper :is(script, img, textarea, b:not(ol > li > b))').length }; })()`);
+}
+
 test('hostile names are shown and do no harm', async (t) => {
   const tab = await open(t, 'example=classroom');
-  const names = [`<script>window.harm=1</script>`, `</textarea><b>`, `a&amp;'b`, `${'x'.repeat(60)}`];
+  const names = [`<script>window.harm=1</script>`, `</textarea><b>`, `a&amp;'b`, 'track #1', `${'x'.repeat(60)}`];
   for (const name of names) {
     const text = sample('classroom').replaceAll('busy', `"${name}"`).replaceAll('no_train', `"${name}2"`);
     const [table, , journal] = text.split(/(?=^krossvil )/m);
@@ -421,6 +428,8 @@ test('hostile names are shown and do no harm', async (t) => {
     await tab.click('#first');
     for (let k = 0; k < 6; k++) await tab.click('#next');
     assert.ok((await tab.text('#machine')).includes(name), name);
+    const { texts, odd } = await worksheet(tab);
+    assert.deepEqual([texts.map((each) => each.split(name).length), odd], [[8, 8], 0], name);
   }
   for (const wrong of [HOSTILE, '\u202Egnorw', 'a\u0000b', '"\u2066"']) {
     await setPane(tab, 'table', `krossvil table\n${wrong}\n`);
