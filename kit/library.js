@@ -22,7 +22,7 @@ const FIELD_MAX = 3 + 65535;
  */
 export const BYTES_READ = 70000;
 
-/** So many bytes of each argument are handed over. */
+/** So many bytes of each argument are handed over. The last room is no argument's own, so no call writes to it. */
 const SIZES = {
   table: BYTES_READ,
   input: FIELD_MAX,
@@ -32,22 +32,26 @@ const SIZES = {
   answer: 28,
   report: 8 * REPORT_MAX,
   live: 4 * LIVE,
+  reading: BYTES_READ,
 };
 
 const ACCEPTANCE = ['end', 'cycles', 'moves', 'state', 'output', 'left', 'longest'];
 
+/** Rooms begin at multiples of this. Numbers need 8; a file is read at half the speed into a room that begins a few bytes behind a page. */
+const ALIGNED = 64;
+
 /**
- * Rooms in the module's memory, apart from each other and aligned to eight bytes.
+ * Rooms in the module's memory, apart from each other.
  * @param {number} base  where the memory is free from
  * @returns {Record<string, Room>}
  */
 function layOut(base) {
   /** @type {Record<string, Room>} */
   const rooms = {};
-  let at = Math.ceil(base / 8) * 8;
+  let at = Math.ceil(base / ALIGNED) * ALIGNED;
   for (const [name, size] of Object.entries(SIZES)) {
     rooms[name] = { at, size };
-    at += Math.ceil((size + 1) / 8) * 8;
+    at += Math.ceil((size + 1) / ALIGNED) * ALIGNED;
   }
   return rooms;
 }
@@ -61,17 +65,21 @@ class Module {
     this.view = new DataView(this.exports.memory.buffer);
     this.rooms = layOut(Number(this.exports.__heap_base.value));
     this.answerRoom = this.lend('answer');
+    const { at, size } = this.rooms.reading;
+    this.reading = this.memory.subarray(at, at + size);
   }
 
   /**
-   * A slice that is read: the bytes are put in their room.
+   * A slice that is read: the bytes are put in their room, save for those in the room for reading, which stay there.
    * @param {string} name @param {Uint8Array} bytes
    */
   give(name, bytes) {
     const { at, size } = this.rooms[name];
     const given = bytes.length > size ? bytes.subarray(0, size) : bytes;
+    const length = BigInt(given.length);
+    if (given.byteOffset >= this.reading.byteOffset && given.buffer === this.memory.buffer) return [given.byteOffset, length];
     this.memory.set(given, at);
-    return [at, BigInt(given.length)];
+    return [at, length];
   }
 
   /**
@@ -137,6 +145,7 @@ class Krossvil {
   /** @param {Module} module */
   constructor(module) {
     this.module = module;
+    this.reading = module.reading;
   }
 
   /** @param {Uint8Array} table */

@@ -336,6 +336,7 @@
  * Every function answers {ok: true, ..} or {ok: false, number, place}.
  * @typedef {{ok: false, number: number, place: number}} Refused
  * @typedef {Object} Library
+ * @property {Uint8Array} reading        for who reads files: what is read into it is handed over without a copy, and no call changes it
  * @property {(table: Uint8Array) => {ok: true} | Refused} checkTable
  * @property {(table: Uint8Array, journal: Uint8Array) => ({ok: true} & Acceptance) | Refused} checkJournal
  * @property {(table: Uint8Array, shortJournal: Uint8Array) => ({ok: true} & Acceptance) | Refused} checkShort

@@ -93,13 +93,13 @@ export class Asking {
 
   /**
    * @param {TableSource} table @param {readonly Form[]} forms @param {string|undefined} file  the table's own if it is not said
-   * @param {boolean} [brief]  the bytes are used before the next file is read only
+   * @param {Uint8Array} [room]  for bytes that are used before the next file is read only
    * @returns {Source[]}
    */
-  all(table, forms, file, brief = false) {
+  all(table, forms, file, room) {
     const as = this.kind === null ? null : forms.find((form) => form === this.kind);
     if (as === undefined) throw new Trouble(`--as ${this.kind}: here ${forms.join(', ')} can be meant`);
-    if (file !== undefined) return this.sources.records(file, table, forms, as, brief);
+    if (file !== undefined) return this.sources.records(file, table, forms, as, room);
     if (table.text) return this.sources.beside(table, forms, as);
     throw new Trouble(`${shownFile(table.file)}: these are bytes; name a ${wordOf(forms[0])} too`);
   }

@@ -11,7 +11,8 @@ import { Trouble } from './trouble.js';
 
 /**
  * @typedef {Object} Io
- * @property {(path: string, limit: number, noted: boolean) => Uint8Array} read   `-` is the standard input; no more than the limit is read,
+ * @property {(path: string, limit: number, noted: boolean, room?: Uint8Array) => Uint8Array} read   `-` is the standard input; no more than
+ *                                                                   the limit is read, into the room that is given if that is enough,
  *                                                                   and what was read may be overwritten in memory by the next reading.
  *                                                                   A file that is noted is never written to
  * @property {(path: string, follow: boolean) => Iterable<Uint8Array>} pieces   of a file, up to its end; each is good up to the next. One that is
@@ -56,10 +57,9 @@ const FOLLOWED_EVERY = 100;
 const ROOM = Buffer.alloc(70000);
 
 /**
- * @param {number} file @param {number} limit
+ * @param {number} file @param {number} limit @param {Uint8Array} room  if it is not enough, there is more elsewhere
  */
-function readUpTo(file, limit) {
-  let room = ROOM;
+function readUpTo(file, limit, room) {
   let length = 0;
   for (;;) {
     const count = patiently(() => readSync(file, room, length, Math.min(limit, room.length) - length, null));
@@ -136,11 +136,11 @@ const waiting = new Waiting();
 const inputs = new Inputs();
 
 /** @type {Io['read']} */
-function read(path, limit, noted) {
+function read(path, limit, noted, room = ROOM) {
   const file = path === '-' ? INPUT : openSync(path, 'r');
   try {
     if (noted) inputs.note(file, path === '-' ? 'standard input' : path);
-    return readUpTo(file, limit);
+    return readUpTo(file, limit, room);
   } finally {
     if (file !== INPUT) closeSync(file);
   }
@@ -213,7 +213,7 @@ function convert(tool, args, input) {
 
 /** @type {Io} */
 export const realIo = {
-  read: (path, limit, noted) => orTrouble(path === '-' ? 'standard input' : path, () => read(path, limit, noted)),
+  read: (path, limit, noted, room) => orTrouble(path === '-' ? 'standard input' : path, () => read(path, limit, noted, room)),
   pieces,
   keep: (path) => orTrouble(path, () => keep(path)),
   isOutput,

@@ -30,7 +30,7 @@ export const worstOf = (codes) => codes.reduce((worst, code) => Math.max(worst, 
  */
 function codesOf(asking, table, file, act) {
   try {
-    return named(asking.all(table, JOURNALS, file, true)).map((source) => act(source));
+    return named(asking.all(table, JOURNALS, file, asking.library.reading)).map((source) => act(source));
   } catch (error) {
     const isFolder = error instanceof Trouble && error.code === 'EISDIR';
     const inside = isFolder ? asking.io.list(file) : [];

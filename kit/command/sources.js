@@ -54,12 +54,12 @@ export class Sources {
   }
 
   /**
-   * @param {string} file @param {boolean} [brief]  what is read is used before the next reading only
+   * @param {string} file @param {Uint8Array} [room]  what is read goes there if it fits, and is used before the next reading only
    */
-  read(file, brief = false) {
+  read(file, room) {
     this.#readOnce(file);
-    const data = this.io.read(file, LIMIT, this.noted);
-    return brief ? data : new Uint8Array(data);
+    const data = this.io.read(file, LIMIT, this.noted, room);
+    return room ? data : new Uint8Array(data);
   }
 
   /** @param {string} file */
@@ -152,11 +152,11 @@ export class Sources {
 
   /**
    * What a file has of these forms: of bytes one, of a text all parts that fit. `as` picks one, or says what bytes are.
-   * @param {string} file @param {TableSource} table @param {readonly Form[]} forms @param {Form|null} as @param {boolean} brief
+   * @param {string} file @param {TableSource} table @param {readonly Form[]} forms @param {Form|null} as @param {Uint8Array} [room]
    * @returns {Source[]}
    */
-  records(file, table, forms, as, brief) {
-    const data = this.read(file, brief);
+  records(file, table, forms, as, room) {
+    const data = this.read(file, room);
     if (!isText(data)) return [bytesSource(file, data, as ?? ownForm(data, forms))];
     return partsOf(file, this.text(file, data, namesFor(table)), forms, as);
   }

@@ -21,6 +21,13 @@ function* inPieces(bytes, length, follow) {
   if (follow) yield new Uint8Array();
 }
 
+/** Bytes that are read into a room, if they fit. */
+function inRoom(bytes, room) {
+  if (!room || bytes.length >= room.length) return bytes;
+  room.set(bytes);
+  return room.subarray(0, bytes.length);
+}
+
 /**
  * Runs the command in a world with these files; `-` is the standard input.
  * @returns {Promise<{code: number, out: string, err: string, files: Record<string, Uint8Array|string>, lines: any[]}>}
@@ -29,9 +36,9 @@ export async function ask(args, files = {}, world = {}) {
   const written = { ...files };
   const printed = { out: [], err: [] };
   const io = {
-    read(path, limit) {
+    read(path, limit, noted, room) {
       if (!Object.hasOwn(written, path)) throw new Trouble(`${path}: no such file`);
-      return bytesOf(written[path]).subarray(0, limit);
+      return inRoom(bytesOf(written[path]).subarray(0, limit), room);
     },
     pieces: (path, follow) => inPieces(io.read(path, Infinity), world.pieceLength ?? 1000, follow),
     keep() {},

@@ -2,7 +2,7 @@ import assert from 'node:assert/strict';
 import { readFileSync } from 'node:fs';
 import { test } from 'node:test';
 import { encodeTable } from '../fields.js';
-import { newMemory, newReport, readReport } from '../library.js';
+import { BYTES_READ, newMemory, newReport, readReport } from '../library.js';
 import { readText } from '../notation.js';
 import { wholeSet } from '../sets.js';
 import { Chance } from './chance.js';
@@ -209,6 +209,50 @@ test('nothing that was given is changed, and answers do not share memory', () =>
   library.salvage(table, given);
   library.shorten(table, given);
   assert.ok(sameBytes(given, before) && sameBytes(first.bytes, before));
+});
+
+test('the rooms lie apart, and within what the module leaves free of its memory', () => {
+  const { module: { rooms, memory, exports }, reading } = library;
+  let end = exports.__heap_base.value;
+  for (const { at, size } of Object.values(rooms)) {
+    assert.ok(at >= end);
+    end = at + size;
+  }
+  assert.ok(end <= memory.length);
+  assert.deepEqual([reading.length, reading.byteOffset + reading.length], [BYTES_READ, end]);
+});
+
+/** Bytes in the room for reading, between others. */
+function inReading(bytes, from) {
+  library.reading.fill(0xee);
+  library.reading.set(bytes, from);
+  return library.reading.subarray(from, from + bytes.length);
+}
+
+test('bytes in the room for reading are handed over where they lie, as many as of others', () => {
+  const { module, reading } = library;
+  const given = inReading(journal, 3);
+  assert.deepEqual(module.give('input', given), [reading.byteOffset + 3, BigInt(journal.length)]);
+  assert.deepEqual(module.give('input', given.slice()), [module.rooms.input.at, BigInt(journal.length)]);
+  assert.deepEqual(module.give('input', reading), [reading.byteOffset, BigInt(module.rooms.input.size)]);
+});
+
+test('they get the answers that they get elsewhere, and no call changes them', () => {
+  const [short, stamped, torn] = ['short-journal/short.bin', 'short-clock/stamped.bin', 'torn-journal/torn.bin'].map(file);
+  const under = (name, ...more) => (bytes) => library[name](table, bytes, ...more.map((make) => make()));
+  const cases = [
+    [under('checkJournal'), journal], [under('checkJournal'), torn], [under('checkJournal'), new Uint8Array()],
+    [under('checkJournal'), new Uint8Array(65537).fill(0x11)], [under('checkShort'), short], [under('run'), file('classroom/stimulus.bin')],
+    [under('shorten'), journal], [under('lengthen'), short], [under('salvage'), torn], [under('reportAdd', newReport), journal],
+    [(bytes) => library.watch(table, newMemory(), bytes), journal.subarray(0, 4)], [(bytes) => library.readStamped(bytes), stamped],
+    [(bytes) => library.checkTable(bytes), table], [(bytes) => library.checkJournal(bytes, journal), table],
+  ];
+  for (const [asked, bytes] of cases) {
+    const given = inReading(bytes, 3);
+    const before = library.reading.slice();
+    assert.deepEqual(asked(given), asked(bytes.slice()));
+    assert.ok(sameBytes(library.reading, before));
+  }
 });
 
 test("the header has the package's version", () => {
