@@ -40,13 +40,20 @@ struct view {
     const uint8_t *output, *next, *hold, *delayed;   /* with timers: their lengths and regions, and their sets */
 };
 
-/* Is each of the bytes below the limit, which is at most 32? Eight at a time: a byte that is not sets its top bit, by itself or when so
- * much is added. A table has eight bytes more behind its entries, so that the last ones are read with what follows. */
+/* Is each of the bytes below the limit, which is at most 32? Of many the largest, which the compiler takes from 16 at a time. Few are taken
+ * eight at a time: a byte that is not below sets its top bit, by itself or when so much is added. A table has eight bytes more behind its
+ * entries, so that the last ones are read with what follows. */
 static inline bool all_below(const uint8_t *b, size_t count, uint32_t limit)
 {
     const uint64_t each = 0x0101010101010101u, add = each * (128 - limit);
     uint64_t seen = 0, x;
+    uint8_t top = 0;
     size_t k = 0;
+    if (count >= 64) {
+        for (; k < count; k++)
+            top = b[k] > top ? b[k] : top;
+        return top < limit;
+    }
     for (; k + 8 <= count; k += 8) {
         x = load8(b + k);
         seen |= x | (x + add);
@@ -58,17 +65,26 @@ static inline bool all_below(const uint8_t *b, size_t count, uint32_t limit)
     return !(seen & each << 7);
 }
 
-/* Do the fields 05 and 06 pass? Both entries of a state are looked at together, and no way leads out of the loop. */
+static inline bool each_hold_passes(const struct view *v)
+{
+    uint32_t wrong = 0;
+    for (uint32_t q = 0; q < v->states; q++)
+        wrong |= number4(v->hold + 4 * q) > LONGEST_HOLD;
+    return !wrong;
+}
+
+/* Do the fields 05 and 06 pass? Both entries of a state are looked at together, and no way leads out of the loop. No hold is larger than all
+ * of them joined; where that tells nothing, each is looked at. */
 static inline bool holds_pass(const struct view *v)
 {
-    uint32_t wrong = 0, sets = 0;
+    uint32_t idle = 0, sets = 0, holds = 0;
     for (uint32_t q = 0; q < v->states; q++) {
         uint32_t set = load4(v->delayed + 4 * q), hold = load4(v->hold + 4 * q);
         sets |= set;
-        wrong |= (hold == 0) & (set != 0);
-        wrong |= __builtin_bswap32(hold) > LONGEST_HOLD;
+        holds |= hold;
+        idle |= hold == 0 ? set : 0;
     }
-    return !wrong && !(sets & __builtin_bswap32(beyond(v->inputs)));
+    return !idle && !(sets & __builtin_bswap32(beyond(v->inputs))) && (__builtin_bswap32(holds) <= LONGEST_HOLD || each_hold_passes(v));
 }
 
 static inline bool timers_pass(const struct view *v)
