@@ -1,5 +1,5 @@
 -- Where each entry of a table stands in bytes that passed, and that it stands inside them.
-use mathlib.Core.Path.{◌≡◌, refl, sym, ap, ◌∙◌}
+use mathlib.Core.Path.{◌≡◌, refl, sym}
 use mathlib.Core.List.{List}
 use mathlib.Core.Logic.{◌⊎◌, inl, inr, ⊎_elim}
 use mathlib.Core.Bool.{false}
@@ -11,12 +11,12 @@ use Rattle.std.specs.Prelude.{if◌then◌else◌}
 use Rattle.wire.specs.Choice.{◌=?◌}
 use Rattle.wire.specs.Field.{byte_at, number16_at, number32_at}
 use Rattle.table.specs.declared.Answer.TheVariants.{Passes}
-use Rattle.table.specs.Table.{output_of, next_of, hold_of, delayed_of, length_of, region_of, timer_set_of}
-use Rattle.table.specs.Check.{counts_in, byte_entry, word_entry, next_field, hold_field, delayed_field, timer_set_field, claimed_timers, timers_in}
+use Rattle.table.specs.Table.{output_of, next_of, hold_of, delayed_of, timer_set_of}
+use Rattle.table.specs.Check.{counts_in, byte_entry, word_entry, next_field, hold_field, delayed_field, timer_set_field, timers_in}
 use Rattle.table.specs.Check.{table_with, table_answer, table_in}
 use Rattle.table.proofs.Values.{get_or-filled}
 use Rattle.table.proofs.Rows.{row_stands}
-use Rattle.table.proofs.Stands.{CountsFit, HeadStands, HoldsStand, TimersStand, Readable, table_stands, timing_stands, readable}
+use Rattle.table.proofs.Stands.{CountsFit, HeadStands, Readable, table_stands, timing_stands, readable}
 
 -- A row's place is before its end.
 pub row_before : (q n rows k : ℕ) → q < rows → k < n → q * n + k < rows * n

@@ -14,10 +14,10 @@ use Rattle.wire.proofs.Choice.{both}
 use Rattle.wire.proofs.Laws.{WholeAt}
 use Rattle.table.specs.declared.Answer.TheVariants.{Passes, WrongTagOrLength, CountOutOfRange, BoundOutOfRange, BytesAfter}
 use Rattle.table.specs.declared.Counts.{Counts}
-use Rattle.table.specs.Table.{largest_bound, longest_hold, most_timers}
+use Rattle.table.specs.Table.{largest_bound, most_timers}
 use Rattle.table.specs.Check.{bytes_answer, words_answer, sets_answer, counts_in, bound_in, counts_in_range, counts_answer, bound_answer}
 use Rattle.table.specs.Check.{hold_field, delayed_field, table_end, output_row, next_row, hold_row, timer_set_field, timer_set_row, timers_row, holds_answer, timer_sets_answer, timers_answer}
-use Rattle.table.specs.Check.{tagged, timed, claimed_timers, timing_answer, entries_answer, answer_by, table_answer, timers_in}
+use Rattle.table.specs.Check.{timed, claimed_timers, timing_answer, entries_answer, answer_by, table_answer, timers_in}
 use Rattle.table.proofs.Answers.{told, first_passes, rest_passes}
 use Rattle.table.proofs.Rows.{field_stands, row_stands, in_range, whole_tagged}
 

@@ -9,7 +9,6 @@ use native.Mathlib.Omega.{arith}
 use lib.Arith.{digits_lt}
 use lib.ListN.{get_or}
 use Rattle.sets.proofs.Members.{member_below}
-use Rattle.table.specs.declared.Answer.{Answer}
 use Rattle.table.specs.declared.Answer.TheVariants.{Passes}
 use Rattle.table.specs.Answer.{passes?}
 use Rattle.table.specs.Entries.{filled_to, zeros}

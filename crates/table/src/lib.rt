@@ -360,17 +360,45 @@ pub fn inputs_in(s: &[u8]) -> u32
     wide(counts_in(s).inputs)
 }
 
-// The table in bytes that passed, its arrays filled in place.
+// The table in bytes that passed.
 pub fn read(s: &[u8]) -> Table
     requires { table_answer s.now ≡ Answer.Passes }
     ensures { result ≡ table_in s.now }
+{
+    let mut t = blank();
+    read_into(s, &mut t);
+    t
+}
+
+// A table of which nothing has been read.
+pub fn blank() -> Table {
+    Table {
+        states: 0,
+        inputs: 0,
+        outputs: 0,
+        initial: 0,
+        bound: 0,
+        timers: 0,
+        output: [0u8; 32],
+        next: [0u8; 1024],
+        hold: [0u32; 32],
+        delayed: [0u32; 32],
+        timing: [0u32; 8],
+        sets: [0u32; 128],
+    }
+}
+
+// The table in bytes that passed, its arrays filled in place: a table that is handed back would be on the stack three times.
+pub fn read_into(s: &[u8], t: &mut Table)
+    requires { table_answer s.now ≡ Answer.Passes }
+    ensures { t.new ≡ table_in s.now }
 {
     let c = counts_in(s);
     let states = c.states as usize;
     let p = places_of(c);
     let timers = timers_in(s, p.hold);
     let holders = holders_of(timers, states);
-    let mut t = Table {
+    *t = Table {
         states: c.states as u32,
         inputs: c.inputs as u32,
         outputs: c.outputs as u32,
@@ -390,7 +418,6 @@ pub fn read(s: &[u8]) -> Table
     fill_state(s, p.delayed, holders, &mut t.delayed);
     fill_timing(s, p.hold, 2 * timers, &mut t.timing);
     fill_sets(s, p.hold + 3 + 8 * timers, states * timers, &mut t.sets);
-    t
 }
 
 // Where next(state, input) stands in the rows of a table with this many inputs.
