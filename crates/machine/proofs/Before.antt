@@ -64,6 +64,7 @@ entered_after t m (End time) by = record { state = by.state; regions = by.region
 -- So it is at each record of a run that has a number, whatever it is.
 pub entered_by : (t : Table) (has : Record → Bool) (number : Machine → ℕ → ℕ) (m : Machine) (rs : List Record) (last : Machine) →
     EnteredBy m m.time → Runs t m rs last → (before : Machine) (time : ℕ) → Has (after t) has number m rs before time → EnteredBy before time
+entered_by t has number m [] last by run before time at = absurd at
 entered_by t has number m (r ∷ rs) last by (taken, run) before time at =
     let now = later m m.time (time_of r) (step_taken t m r (after t m r) taken).0.in_order by in
     ⊎_elim (λ x. rw (← x.2, ← x.1) now)

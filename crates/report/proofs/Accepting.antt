@@ -1,5 +1,5 @@
 -- A journal added, by the answer of the journal check.
-use Rattle.std.proofs.Common.{◌≡◌, ℕ, ◌<◌, ◌≤◌, List, length, take, sym, refl, ap, ◌∙◌, arith, take_all, le-leb}
+use Rattle.std.proofs.Common.{◌≡◌, ℕ, ◌<◌, ◌≤◌, List, length, take, sym, refl, ap, ◌∙◌, take_all, le-leb}
 use borrow.Author.Tests.{lt-leb}
 use Rattle.table.specs.Check.{table_in}
 use Rattle.records.specs.Form.{journal}
@@ -13,7 +13,7 @@ use Rattle.tally.specs.Tally.{tally_of, tally_in}
 use Rattle.report.specs.declared.Answer.TheVariants.{Taken, Full}
 use Rattle.report.specs.declared.Report.{Report}
 use Rattle.report.specs.declared.Added as added
-use Rattle.report.specs.Report.{most_journals, longest_table, table_kept, with_tally, as_it_was, not_taken, added_by, add_under, add_of}
+use Rattle.report.specs.Report.{most_journals, with_tally, as_it_was, not_taken, added_by, add_under, add_of}
 
 -- What the check refuses is passed on.
 pub adds : (x : Report) → PassesOn (not_taken x) (λ t. added_by t x)

@@ -1,8 +1,7 @@
 -- The report: begun with a table, and a journal added to it. docs/RULES.md, "Where the time went".
-use Rattle.std.specs.Prelude.{ℕ, ◌+◌, ◌-◌, List, [], ◌∷◌, ◌++◌, length, take, if◌then◌else◌}
+use Rattle.std.specs.Prelude.{ℕ, ◌+◌, List, [], length, take, if◌then◌else◌}
 use Rattle.wire.specs.Choice.{◌≤?◌}
 use Rattle.table.specs.declared.Table.{Table}
-use Rattle.table.specs.declared.Answer as tables
 use Rattle.table.specs.Answer.{passes?}
 use Rattle.table.specs.Check.{table_answer}
 use Rattle.table.specs.Entries.{zeros, padded}

@@ -11,6 +11,7 @@ ghost use Rattle.machine.specs.Walk.{run_over};
 ghost use Rattle.journal.specs.Accepted.{AcceptedIn};
 ghost use Rattle.report.specs.Report.{longest_table, most_journals, empty_with, begin_of, with_tally, added_by, add_under, add_of};
 
+use copies::copy;
 use tally::{Tally, add_numbers, count};
 
 pub mod rows;
@@ -81,7 +82,8 @@ fn empty_with(table: &[u8]) -> Report
     ensures { result ≡ empty_with table.now }
 {
     let mut kept = [0u8; 1626];
-    let size = bytes::copy(table, &mut kept);
+    let size = table.len();
+    copy(table, &mut kept);
     Report {
         size,
         table: kept,

@@ -6,7 +6,7 @@ use Prim.Native.Nat.{ℕ, zero, suc, ◌+◌, ◌-◌, ◌<◌}
 use native.Mathlib.Nat.{sub_self}
 use native.Mathlib.Omega.{arith}
 use borrow.Author.Tests.{lt-ltb, eq-eqb, ltb-true, eqb-true, eqb-false}
-use Rattle.wire.specs.Choice.{◌<?◌, ◌=?◌, ◌and◌}
+use Rattle.wire.specs.Choice.{◌<?◌, ◌=?◌}
 use Rattle.wire.proofs.Choice.{both}
 use Rattle.table.specs.declared.Table.{Table}
 use Rattle.machine.specs.declared.Machine.{Machine}

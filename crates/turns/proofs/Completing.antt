@@ -10,7 +10,7 @@ use Rattle.records.specs.Form.{Form}
 use Rattle.machine.specs.declared.Machine.{Machine}
 use Rattle.machine.specs.declared.Step.{Step}
 use Rattle.machine.specs.Machine.{verdict, state_after, step}
-use Rattle.machine.specs.Walk.{filled, completed}
+use Rattle.machine.specs.Walk.{filled}
 use Rattle.journal.specs.declared.Progress.{Progress}
 use Rattle.journal.specs.Progress.{progress_with}
 use Rattle.turns.specs.declared.Turned.{Turned}

@@ -1,0 +1,14 @@
+-- The loop keeps `Along`.
+use Rattle.std.proofs.Common.{◌-◌, length}
+use Rattle.table.specs.Check.{table_in}
+use Rattle.records.specs.Form.{journal}
+use Rattle.machine.specs.Walk.{run_over}
+use Rattle.tally.specs.Tally.{tally_in}
+use Rattle.tally.proofs.Along.{Along}
+use Rattle.tally.proofs.count.Given as goal
+
+abbrev pub invariant-loop-at : goal.invariant-loop-at
+invariant-loop-at l = Along (table_in l.table) l.s (tally_in (table_in l.table) (run_over journal (table_in l.table) l.s)) l.state l.input l.dwell l.pairs l.entries l.before l.at
+
+abbrev pub decreases-loop-at : goal.decreases-loop-at
+decreases-loop-at l = length l.s - l.at
