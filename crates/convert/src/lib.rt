@@ -11,6 +11,7 @@ ghost use Rattle.table.specs.Encode.{words};
 ghost use Rattle.convert.specs.Answer.{reply_of};
 ghost use Rattle.convert.specs.Convert.{new_set, change, by_state, made_of};
 
+use copies::copy;
 use table::{counts_in, places_of};
 use wire::{number32, put_number32};
 
@@ -88,7 +89,7 @@ pub fn convert(old: &[u8], out: &mut [u8]) -> Answer
     if out.len() < old.len() {
         return Answer::BufferTooShort;
     }
-    bytes::copy(old, out);
+    copy(old, out);
     let c = counts_in(old);
     let p = places_of(c);
     Answer::Converted(write_sets(old, p.hold, p.delayed, c.states as usize, out))

@@ -16,10 +16,7 @@ use Rattle.table.specs.Answer.{passes?}
 use Rattle.table.specs.Under.{under_table}
 use Rattle.table.specs.Check.{table_answer, table_in}
 use Rattle.table.proofs.Answers.{decided}
-use Rattle.records.specs.declared.Refusal.{Refusal}
 use Rattle.records.proofs.Places.{refusal_numbered}
-use Rattle.records.specs.declared.Refusal.TheVariants.{RunsOut, UnknownField, Misplaced, OutOfRange, TimeFalls, PastBound, WrongPhase, Unsettled, Differs}
-use Rattle.records.specs.Refusal.{number_of}
 use Rattle.records.specs.Form.{Form}
 use Rattle.machine.specs.Walk.{RunOverBytes, ran, too_long, refused, run_over}
 use Rattle.journal.specs.declared.Numbers.{Numbers}

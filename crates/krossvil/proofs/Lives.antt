@@ -1,8 +1,8 @@
 -- A live run as an entry that writes, and the live check; and the memory that the host keeps.
-use mathlib.Core.Path.{◌≡◌, refl, sym, ap, ◌∙◌}
-use mathlib.Core.List.{List, [], ◌∷◌, ◌++◌}
+use mathlib.Core.Path.{◌≡◌, refl, sym, ◌∙◌}
+use mathlib.Core.List.{List, [], ◌∷◌}
 use mathlib.Core.Bool.{Bool, true, false}
-use Prim.Native.Nat.{ℕ, zero, suc, ◌+◌, ◌*◌, ◌^◌, ◌<◌, ◌≤◌}
+use Prim.Native.Nat.{ℕ, zero, suc, ◌^◌, ◌<◌, ◌≤◌}
 use native.Mathlib.Omega.{arith}
 use borrow.Author.Tests.{lt-ltb, le-ltb, ltb-true, ltb-false}
 use types.Run.{OneOf, miss}
@@ -10,10 +10,10 @@ use denote.Enum.Declared.{tag_of}
 use lib.ListN.{length, take}
 use lib.Seq.{take-length}
 use Rattle.std.specs.Prelude.{if◌then◌else◌}
-use Rattle.wire.specs.Choice.{◌<?◌, ◌=?◌}
+use Rattle.wire.specs.Choice.{◌<?◌}
 use Rattle.wire.proofs.Apart.{apart}
 use Rattle.wire.specs.Made.{Made, refused, made, answer_in}
-use Rattle.wire.specs.Reply.{Reply, gives, refuses, values_in}
+use Rattle.wire.specs.Reply.{gives, refuses, values_in}
 use Rattle.table.specs.declared.Table.{Table}
 use Rattle.table.specs.Check.{table_answer, table_in}
 use Rattle.table.proofs.Under.{under_either}

@@ -18,8 +18,7 @@ pub fn in_order(n: journal::Numbers) -> [u32; 7]
 }
 
 // What is told of a check stands in each entry: shared by both, it would be a function of its own, and the loops would lose by it.
-#[unsafe(no_mangle)]
-pub extern "C" fn krossvil_check_journal(table: &[u8], journal: &[u8], answer: &mut [u8]) -> u64
+pub fn krossvil_check_journal(table: &[u8], journal: &[u8], answer: &mut [u8]) -> u64
     ensures code { result ≡ code_of (journal_told table.now journal.now (length answer.old)) }
     ensures bytes { answer.new ≡ answer_after (journal_told table.now journal.now (length answer.old)) answer.old }
 {
@@ -31,8 +30,7 @@ pub extern "C" fn krossvil_check_journal(table: &[u8], journal: &[u8], answer: &
     tell(&numbers, answer)
 }
 
-#[unsafe(no_mangle)]
-pub extern "C" fn krossvil_check_short(table: &[u8], journal: &[u8], answer: &mut [u8]) -> u64
+pub fn krossvil_check_short(table: &[u8], journal: &[u8], answer: &mut [u8]) -> u64
     ensures code { result ≡ code_of (short_told table.now journal.now (length answer.old)) }
     ensures bytes { answer.new ≡ answer_after (short_told table.now journal.now (length answer.old)) answer.old }
 {

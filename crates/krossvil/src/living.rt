@@ -37,8 +37,7 @@ fn tell_swapped(numbers: &[u32], answer: &mut [u8]) -> u64
     0
 }
 
-#[unsafe(no_mangle)]
-pub extern "C" fn krossvil_live(
+pub fn krossvil_live(
     table: &[u8],
     memory: &mut [u32],
     event: &[u8],
@@ -83,13 +82,7 @@ fn tell_watched(done: live::Watched, answer: &mut [u8]) -> u64
 }
 
 // The memory may change only if the answer is long enough: where it is not, the check only looks.
-#[unsafe(no_mangle)]
-pub extern "C" fn krossvil_watch(
-    table: &[u8],
-    memory: &mut [u32],
-    bytes: &[u8],
-    answer: &mut [u8],
-) -> u64
+pub fn krossvil_watch(table: &[u8], memory: &mut [u32], bytes: &[u8], answer: &mut [u8]) -> u64
     ensures code { result ≡ code_of (watch_told table.now memory.old bytes.now (length answer.old)) }
     ensures bytes { answer.new ≡ answer_after (watch_told table.now memory.old bytes.now (length answer.old)) answer.old }
     ensures kept { memory.new ≡ watch_keeps table.now memory.old bytes.now (length answer.old) }

@@ -7,13 +7,7 @@ use crate::telling::{code, tell};
 // Bytes of answer that krossvil_reaction_moves needs: it writes to sums and path besides.
 const MOVES_ANSWER: usize = 12;
 
-#[unsafe(no_mangle)]
-pub extern "C" fn krossvil_reaction(
-    table: &[u8],
-    states: u32,
-    inputs: u32,
-    answer: &mut [u8],
-) -> u64
+pub fn krossvil_reaction(table: &[u8], states: u32, inputs: u32, answer: &mut [u8]) -> u64
     ensures code { result ≡ code_of (reaction_told table.now states inputs (length answer.old)) }
     ensures bytes { answer.new ≡ answer_after (reaction_told table.now states inputs (length answer.old)) answer.old }
 {
@@ -26,8 +20,7 @@ pub extern "C" fn krossvil_reaction(
 }
 
 // What is turned down comes first, and then an answer buffer that is too short: only after that sums and path are written.
-#[unsafe(no_mangle)]
-pub extern "C" fn krossvil_reaction_moves(
+pub fn krossvil_reaction_moves(
     table: &[u8],
     states: u32,
     inputs: u32,
@@ -53,13 +46,7 @@ pub extern "C" fn krossvil_reaction_moves(
     tell(&numbers, answer)
 }
 
-#[unsafe(no_mangle)]
-pub extern "C" fn krossvil_reaction_tight(
-    table: &[u8],
-    states: u32,
-    inputs: u32,
-    answer: &mut [u8],
-) -> u64
+pub fn krossvil_reaction_tight(table: &[u8], states: u32, inputs: u32, answer: &mut [u8]) -> u64
     ensures code { result ≡ code_of (tight_told table.now states inputs (length answer.old)) }
     ensures bytes { answer.new ≡ answer_after (tight_told table.now states inputs (length answer.old)) answer.old }
 {
@@ -76,8 +63,7 @@ pub extern "C" fn krossvil_reaction_tight(
     }
 }
 
-#[unsafe(no_mangle)]
-pub extern "C" fn krossvil_reaction_tight_moves(
+pub fn krossvil_reaction_tight_moves(
     table: &[u8],
     states: u32,
     inputs: u32,

@@ -26,8 +26,7 @@ fn room_for(table: &[u8], report: &[u64]) -> u64
 }
 
 // The check goes first, by its own entry, as for the converters.
-#[unsafe(no_mangle)]
-pub extern "C" fn krossvil_report_add(table: &[u8], journal: &[u8], report: &mut [u64]) -> u64
+pub fn krossvil_report_add(table: &[u8], journal: &[u8], report: &mut [u64]) -> u64
     ensures code { result ≡ code_of (report_told table.now journal.now report.old) }
     ensures numbers { report.new ≡ report_after table.now journal.now report.old }
 {

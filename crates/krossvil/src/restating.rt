@@ -11,12 +11,7 @@ ghost use Rattle.krossvil.specs.Host.{code_of, answer_after, made_buffer, stampe
 use crate::checking::{ACCEPTED_ANSWER, krossvil_check_journal, krossvil_check_short};
 use crate::telling::{ONE_NUMBER, code, room_beside, tell};
 
-#[unsafe(no_mangle)]
-pub extern "C" fn krossvil_read_stamped(
-    stamped: &[u8],
-    journal: &mut [u8],
-    answer: &mut [u8],
-) -> u64
+pub fn krossvil_read_stamped(stamped: &[u8], journal: &mut [u8], answer: &mut [u8]) -> u64
     ensures code { result ≡ code_of (stamped_told stamped.now journal.old (length answer.old)) }
     ensures bytes { answer.new ≡ answer_after (stamped_told stamped.now journal.old (length answer.old)) answer.old }
     ensures written { journal.new ≡ made_buffer stamped_answer.reply_of stamped_variants.BufferTooShort (read_of stamped.now) journal.old (length answer.old) }
@@ -32,8 +27,7 @@ pub extern "C" fn krossvil_read_stamped(
 }
 
 // The check goes first, by its own entry: if it were called from here as well, it would not be inlined there, and its loop be slower.
-#[unsafe(no_mangle)]
-pub extern "C" fn krossvil_shorten(
+pub fn krossvil_shorten(
     table: &[u8],
     journal: &[u8],
     shortened: &mut [u8],
@@ -58,8 +52,7 @@ pub extern "C" fn krossvil_shorten(
     tell(&numbers, answer)
 }
 
-#[unsafe(no_mangle)]
-pub extern "C" fn krossvil_lengthen(
+pub fn krossvil_lengthen(
     table: &[u8],
     shortened: &[u8],
     journal: &mut [u8],

@@ -4,13 +4,7 @@ ghost use Rattle.krossvil.specs.Host.{code_of, answer_after, run_told, run_journ
 
 use crate::telling::{ONE_NUMBER, code, room_beside, tell};
 
-#[unsafe(no_mangle)]
-pub extern "C" fn krossvil_run(
-    table: &[u8],
-    stimulus: &[u8],
-    journal: &mut [u8],
-    answer: &mut [u8],
-) -> u64
+pub fn krossvil_run(table: &[u8], stimulus: &[u8], journal: &mut [u8], answer: &mut [u8]) -> u64
     ensures code { result ≡ code_of (run_told table.now stimulus.now journal.old (length answer.old)) }
     ensures bytes { answer.new ≡ answer_after (run_told table.now stimulus.now journal.old (length answer.old)) answer.old }
     ensures written { journal.new ≡ run_journal table.now stimulus.now journal.old (length answer.old) }

@@ -26,13 +26,7 @@ fn passes_up(number: u32, place: usize) -> bool
 }
 
 // The check goes first, by its own entry, as for the converters.
-#[unsafe(no_mangle)]
-pub extern "C" fn krossvil_salvage(
-    table: &[u8],
-    journal: &[u8],
-    salvaged: &mut [u8],
-    answer: &mut [u8],
-) -> u64
+pub fn krossvil_salvage(table: &[u8], journal: &[u8], salvaged: &mut [u8], answer: &mut [u8]) -> u64
     ensures code { result ≡ code_of (salvage_told table.now journal.now salvaged.old (length answer.old)) }
     ensures bytes { answer.new ≡ answer_after (salvage_told table.now journal.now salvaged.old (length answer.old)) answer.old }
     ensures written { salvaged.new ≡ made_buffer reply_of BufferTooShort (salvage_of table.now journal.now) salvaged.old (length answer.old) }

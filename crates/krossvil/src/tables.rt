@@ -9,20 +9,14 @@ ghost use Rattle.krossvil.specs.Host.{code_of, answer_after, made_buffer, conver
 
 use crate::telling::{ONE_NUMBER, code, room_beside, tell};
 
-#[unsafe(no_mangle)]
-pub extern "C" fn krossvil_check_table(table: &[u8]) -> u64
+pub fn krossvil_check_table(table: &[u8]) -> u64
     ensures { result ≡ code_of (table_answers.reply_of (table_answer table.now)) }
 {
     let checked = table::check(table);
     code(checked.number(), checked.place())
 }
 
-#[unsafe(no_mangle)]
-pub extern "C" fn krossvil_convert_table(
-    table: &[u8],
-    converted: &mut [u8],
-    answer: &mut [u8],
-) -> u64
+pub fn krossvil_convert_table(table: &[u8], converted: &mut [u8], answer: &mut [u8]) -> u64
     ensures code { result ≡ code_of (convert_told table.now converted.old (length answer.old)) }
     ensures bytes { answer.new ≡ answer_after (convert_told table.now converted.old (length answer.old)) answer.old }
     ensures written { converted.new ≡ made_buffer convert_answer.reply_of BufferTooShort (made_of table.now) converted.old (length answer.old) }

@@ -1,6 +1,6 @@
 -- The theorems about journals, as specs/Journals states them.
 use mathlib.Core.Path.{◌≡◌, refl, sym, ap, ◌∙◌}
-use mathlib.Core.List.{List, [], ◌∷◌, ◌++◌, map}
+use mathlib.Core.List.{List, [], ◌∷◌, ◌++◌}
 use mathlib.Core.Bool.{true}
 use Prim.Native.Nat.{ℕ}
 use native.Mathlib.Omega.{arith}
@@ -14,9 +14,9 @@ use Rattle.table.specs.Encode.{table_bytes}
 use Rattle.table.specs.Check.{table_answer}
 use Rattle.table.proofs.Under.{under_passes, under_passed}
 use Rattle.records.specs.declared.Record.{Record}
-use Rattle.records.specs.declared.Record.TheVariants.{Change, Poll, Test, Tick, End}
+use Rattle.records.specs.declared.Record.TheVariants.{End}
 use Rattle.records.specs.Form.{Form, journal, short}
-use Rattle.records.specs.Encode.{kept, Recovers}
+use Rattle.records.specs.Encode.{Recovers}
 use Rattle.records.proofs.Written.{journal_recovers, short_recovers}
 use Rattle.records.proofs.Says.{keeps_all}
 use Rattle.machine.specs.declared.Machine.{Machine}

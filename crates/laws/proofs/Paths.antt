@@ -10,7 +10,7 @@ use lib.ListN.{length, get_or}
 use Rattle.std.specs.Prelude.{if◌then◌else◌}
 use Rattle.wire.specs.Choice.{◌=?◌}
 use Rattle.wire.proofs.Apart.{apart}
-use Rattle.sets.specs.Sets.{member, largest}
+use Rattle.sets.specs.Sets.{member}
 use Rattle.sets.proofs.Members.{largest_covers}
 use Rattle.table.specs.declared.Table.{Table}
 use Rattle.table.specs.Table.{next_of, WellFormed}

@@ -5,8 +5,8 @@ use mathlib.Core.Bool.{Bool, true, false}
 use Prim.Native.Nat.{ℕ, zero, suc, ◌+◌, ◌*◌, ◌%◌, ◌^◌, ◌<◌, ◌≤◌}
 use native.Mathlib.Omega.{arith}
 use native.Mathlib.Nat.{zero-add, mod-add-mod, mod-eq_of_lt, mul-le-mul, not-suc-le-zero, le_of_suc-le-suc, lt_of_lt_of_le}
-use borrow.Author.Tests.{leb-true, leb-false, lt-leb}
-use lib.ListN.{length, get_or, take, length-append, length-replicate, get_or-replicate}
+use borrow.Author.Tests.{leb-false, lt-leb}
+use lib.ListN.{length, length-append, length-replicate, get_or-replicate}
 use lib.Seq.{take-append_seam}
 use lib.Arith.{digits_lt}
 use Rattle.std.specs.Prelude.{if◌then◌else◌}

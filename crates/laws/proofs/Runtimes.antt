@@ -4,11 +4,11 @@ use mathlib.Core.List.{List, [], ◌∷◌, ◌++◌, map}
 use mathlib.Core.Bool.{Bool, true, false}
 use Prim.Native.Nat.{ℕ, ◌≤◌}
 use native.Mathlib.Omega.{arith}
-use borrow.Author.Tests.{le-ltb, ltb-false, leb-true}
+use borrow.Author.Tests.{le-ltb, ltb-false}
 use lib.ListN.{length, take, drop}
 use lib.Seq.{take-append_seam}
 use Rattle.std.specs.Prelude.{if◌then◌else◌}
-use Rattle.wire.specs.Choice.{◌<?◌, ◌≤?◌, ◌and◌}
+use Rattle.wire.specs.Choice.{◌<?◌, ◌≤?◌}
 use Rattle.wire.specs.Encode.{Bytes}
 use Rattle.wire.specs.Made as Made
 use Rattle.wire.specs.Made.{refused, buffer_in}

@@ -2,29 +2,25 @@
 use mathlib.Core.Path.{◌≡◌, refl, sym, ap, ◌∙◌}
 use mathlib.Core.List.{List, [], ◌∷◌, ◌++◌}
 use mathlib.Core.Bool.{Bool, true, false}
-use Prim.Native.Nat.{ℕ, suc, ◌+◌, ◌*◌, ◌<◌, ◌≤◌}
+use Prim.Native.Nat.{ℕ, ◌<◌, ◌≤◌}
 use native.Mathlib.Omega.{arith}
 use borrow.Author.Tests.{ltb-true, ltb-false}
 use lib.ListN.{length}
 use Rattle.wire.specs.Choice.{◌<?◌}
 use Rattle.wire.specs.Encode.{Bytes}
-use Rattle.wire.specs.Made.{Made, refused, made}
+use Rattle.wire.specs.Made.{refused, made}
 use Rattle.wire.proofs.Apart.{apart}
-use Rattle.table.specs.declared.Table.{Table}
-use Rattle.table.specs.Table.{WellFormed}
 use Rattle.table.specs.Check.{table_in}
 use Rattle.table.proofs.WellFormed.{well_formed}
 use Rattle.records.specs.declared.Record.{Record}
 use Rattle.records.specs.declared.Record.TheVariants.{End}
 use Rattle.records.specs.Record.{time_of}
-use Rattle.records.specs.Form.{Form, journal, short, clock, longest_journal}
+use Rattle.records.specs.Form.{Form, journal, short, longest_journal}
 use Rattle.records.specs.Encode.{written_in, encode, Recovers}
 use Rattle.records.proofs.Says.{in_time, ranges_same, keeps_all}
 use Rattle.records.proofs.Written.{journal_recovers, short_recovers, gap_tells}
-use Rattle.machine.specs.declared.Machine.{Machine}
-use Rattle.machine.specs.Walk.{RunOverBytes, ran, in_table, run_over}
+use Rattle.machine.specs.Walk.{in_table, run_over}
 use Rattle.machine.specs.Gaps.{Spaced}
-use Rattle.machine.specs.RunsOver.{RunsOver}
 use Rattle.machine.proofs.Gaps.{TellsGaps, gaps_within_bound, inner_restated}
 use Rattle.machine.proofs.RunsOver.{over_written, over_runs, runs_over}
 use Rattle.journal.specs.Check.{check_in}

@@ -2,7 +2,7 @@
 use mathlib.Core.Path.{◌≡◌, refl, sym, ap, ◌∙◌}
 use mathlib.Core.List.{List, [], ◌∷◌, ◌++◌}
 use mathlib.Core.Bool.{Bool}
-use Prim.Native.Nat.{ℕ, ◌≤◌}
+use Prim.Native.Nat.{ℕ, ◌+◌, ◌≤◌}
 use native.Mathlib.Omega.{arith}
 use lib.ListN.{length}
 use Rattle.wire.specs.Made.{made}
@@ -16,7 +16,7 @@ use Rattle.records.specs.declared.Record.{Record}
 use Rattle.records.specs.declared.Record.TheVariants.{End}
 use Rattle.records.specs.Record.{time_of}
 use Rattle.records.specs.Form.{Form, journal, stamped, longest_stamped}
-use Rattle.records.specs.Reading.{any_record}
+use Rattle.records.specs.Reading.{any_record, size_of}
 use Rattle.records.specs.Encode.{encode, placed, Inner, WrittenAs}
 use Rattle.records.proofs.Written.{journal_recovers, reads_written, stamp_tells}
 use Rattle.records.proofs.Says.{in_time}
@@ -28,7 +28,7 @@ use Rattle.journal.specs.declared.Numbers.{Numbers}
 use Rattle.journal.specs.declared.Answer.TheVariants.{Accepted}
 use Rattle.journal.proofs.Accepted.{passed}
 use Rattle.writing.specs.declared.Answer.TheVariants.{Written, BufferTooShort}
-use Rattle.stamped.specs.Stamped.{listed, list_of, made_of_records, read_of}
+use Rattle.stamped.specs.Stamped.{listed, before, list_of, made_of_records, read_of}
 use Rattle.stamped.proofs.Over.{opened_with}
 use Rattle.stamped.proofs.Lengths.{read_short}
 use Rattle.laws.specs.Journals.{AcceptedRun}
@@ -41,7 +41,7 @@ stamps_tell = record { valued = refl; small = λ before time low high late. omeg
 list_placed : (F : Form) (at : ℕ) (rs : List Record) (end : ℕ) → list_of (placed F at rs end) ≡ listed (rs ++ End end ∷ [])
 unfolding list_of placed
 list_placed F at [] end = refl
-list_placed F at (r ∷ rs) end = rw (list_placed F _ rs end) refl
+list_placed F at (r ∷ rs) end = ap (before r) (list_placed F (at + size_of F r) rs end)
 
 -- Written records are in range of any reader that asks less.
 loosened : (F : Form) (allows : Record → Bool) (before : ℕ) (rs : List Record) (end : ℕ) → Inner F allows before rs end → Inner F any_record before rs end

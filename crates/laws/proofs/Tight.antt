@@ -1,27 +1,26 @@
 -- Tight times over several moves, as specs/Tight states them.
 use mathlib.Core.Path.{◌≡◌, refl, sym, ap, ◌∙◌}
-use mathlib.Core.Bool.{Bool, true, false}
+use mathlib.Core.Bool.{Bool}
 use mathlib.Core.List.{List, [], ◌∷◌}
 use mathlib.Core.Logic.{◌⊎◌, inl, inr}
 use Prim.Native.Nat.{ℕ, ◌+◌, ◌<◌, ◌≤◌}
 use native.Mathlib.Nat.{le_antisymm}
 use native.Mathlib.Omega.{arith}
 use lib.ListN.{length}
-use Rattle.std.specs.Prelude.{if◌then◌else◌}
 use Rattle.wire.proofs.Choice.{never, both}
 use Rattle.sets.specs.Sets.{member, largest}
 use Rattle.sets.proofs.Members.{largest_covers, largest_reached, Reaching}
 use Rattle.table.specs.declared.Table.{Table}
 use Rattle.table.specs.Table.{WellFormed}
-use Rattle.reaction.specs.Reaction.{next_set, off_target, from_hold, weight}
+use Rattle.reaction.specs.Reaction.{next_set, off_target, weight}
 use Rattle.reaction.specs.Meaning.{Known}
 use Rattle.reaction.proofs.Meaning.{AllExist}
 use Rattle.moves.specs.Moves.{next_times, largest_sum, reaction_over}
-use Rattle.tight.specs.Tight.{need_of, tight_time}
+use Rattle.tight.specs.Tight.{tight_time}
 use Rattle.tight.specs.Several.{tight_weight, tight_time_over}
 use Rattle.tight.proofs.Time.{Slowest, NoneOutside, slowest, tight_covers}
 use Rattle.tight.proofs.Several.{one_below, need_by_weight, tight_positive, without_path, with_path, over_covers}
-use Rattle.laws.specs.Paths.{sum_of, PathOf, Largest}
+use Rattle.laws.specs.Paths.{sum_of, Largest}
 use Rattle.laws.specs.Tight.{holds_on, NoPath, TightMeans, BelowOver, TightOverMeans, TightOverBelow, TightOfNone, TightOfOne}
 use Rattle.laws.proofs.Rounds.{weight_positive}
 use Rattle.laws.proofs.Paths.{only_empty, largest_is_of_all}

@@ -9,7 +9,7 @@ use Rattle.records.specs.Form as form
 use Rattle.machine.specs.AsTimers.{as_timers, FewHolds, SameOverBytes, both_ran, both_too_long, both_refused}
 use Rattle.machine.specs.Walk.{RunOverBytes}
 use Rattle.machine.proofs.AsTimers.{as_timers_judge_alike}
-use Rattle.journal.specs.Check.{check_in, answer_of_run, check_under, check_of}
+use Rattle.journal.specs.Check.{check_in, answer_of_run, check_under}
 use Rattle.runtime.specs.Run.{made_of_run, made_under, run_of}
 use Rattle.laws.specs.Timers.{timers_for, TimersForHolds}
 use Rattle.laws.proofs.Tables.{holds_that_table}

@@ -7,7 +7,6 @@ use native.Mathlib.Nat.{le_antisymm}
 use native.Mathlib.Omega.{arith}
 use borrow.Author.Tests.{leb-true, leb-false}
 use lib.Dec.{leb}
-use Rattle.std.specs.Prelude.{if◌then◌else◌}
 use Rattle.sets.specs.Sets.{member, largest, TakesSmallest}
 use Rattle.sets.proofs.Members.{largest_covers, largest_reached, Reaching}
 use Rattle.sets.proofs.Walk.{Walk, Walked, begins, none_walked, all_walked, goes_on, taken_in, walked_now}

@@ -1,6 +1,6 @@
 -- What the inner functions of tight times over several moves ask and find: a helper of contracts, no rule. They have an array of images and
 -- one of weights, and over these the largest sums of specs/Several are said here once more; proofs/Along proves that both are the same.
-use Rattle.std.specs.Prelude.{◌≡◌, true, List, ℕ, zero, suc, ◌+◌, ◌-◌, ◌*◌, ◌≤◌, get_or, if◌then◌else◌}
+use Rattle.std.specs.Prelude.{◌≡◌, true, List, ℕ, zero, suc, ◌+◌, ◌-◌, ◌≤◌, get_or, if◌then◌else◌}
 use Rattle.wire.specs.Choice.{◌=?◌}
 use Rattle.sets.specs.Sets.{member, largest}
 use Rattle.reaction.specs.Reaction.{off_target}

@@ -1,0 +1,10 @@
+-- The loop keeps `Put`.
+use Rattle.krossvil.proofs.Outcomes.{put_none, put_next}
+use Rattle.krossvil.proofs.living.put_swapped.Goals as goal
+
+pub loop-k-init : goal.loop-k-init
+loop-k-init c = put_none _ _ c.requires
+
+pub loop-k-preserved : goal.loop-k-preserved
+loop-k-preserved c =
+    put_next _ _ _ _ c.loop-k.invariant c.loop-k-test.true _ c.put_swapped32.ensures
