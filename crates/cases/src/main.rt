@@ -2,27 +2,45 @@
 // written; the file `stdout` has the answers as that page gives them, and the gate compares. Each entry has a module of its own.
 #![tactic(auto)]
 
+ghost use Rattle.std.specs.Prelude.{◌≤◌, length};
+
 mod journals;
 mod print;
 mod reactions;
 mod stimuli;
 mod tables;
 
-use libc::STDIN_FILENO;
 use spelling::words::{Reading, before};
 use spelling::{Room, words};
+use std::io::Read;
 
-fn main() {
-    let mut text = [0u8; 65537];
-    let size = io::read_full(STDIN_FILENO, &mut text);
-    if size == 65537 {
-        print::text(b"too long\n");
-        return;
+// Reads until the buffer is full or the input ends, or cannot be read, and gives how many bytes it read.
+fn read_full(input: &mut impl Read, buffer: &mut [u8]) -> usize
+    ensures { result ≤ length buffer.new }
+{
+    let mut size = 0;
+    while size < buffer.len() {
+        match input.read(&mut buffer[size..]) {
+            Ok(0) => break,
+            Ok(n) => size += n,
+            Err(_) => break,
+        }
     }
-    run(spelling::filled(&text, size));
+    size
 }
 
-fn run(text: &[u8]) {
+fn main(rt: HostRuntime) {
+    let rt = &rt;
+    let mut text = [0u8; 65537];
+    let size = read_full(&mut rt.stdin(), &mut text);
+    if size == 65537 {
+        print::text(rt, b"too long\n");
+        return;
+    }
+    run(rt, spelling::filled(&text, size));
+}
+
+fn run(rt: &HostRuntime, text: &[u8]) {
     let mut table = [0u8; 65537];
     let mut records = [0u8; 65537];
     let mut table_size = 0;
@@ -31,6 +49,7 @@ fn run(text: &[u8]) {
     while rest.len() > 0 {
         let end = words::line_length(rest);
         run_line(
+            rt,
             before(rest, end),
             &mut table,
             &mut table_size,
@@ -43,6 +62,7 @@ fn run(text: &[u8]) {
 }
 
 fn run_line(
+    rt: &HostRuntime,
     line: &[u8],
     table: &mut Room,
     table_size: &mut usize,
@@ -63,6 +83,7 @@ fn run_line(
         set(rest, records, records_size)
     } else {
         run_case(
+            rt,
             word,
             rest,
             spelling::filled(table, *table_size),
@@ -70,9 +91,9 @@ fn run_line(
         )
     };
     if !understood {
-        print::text(b"not understood: ");
-        print::text(line);
-        print::end_line();
+        print::text(rt, b"not understood: ");
+        print::text(rt, line);
+        print::end_line(rt);
     }
 }
 
@@ -84,30 +105,30 @@ fn set(line: &[u8], room: &mut Room, size: &mut usize) -> bool {
     true
 }
 
-fn run_case(word: &[u8], line: &[u8], table: &[u8], records: &[u8]) -> bool {
+fn run_case(rt: &HostRuntime, word: &[u8], line: &[u8], table: &[u8], records: &[u8]) -> bool {
     if check::same(word, b"=") {
-        print::text(line);
-        print::end_line();
+        print::text(rt, line);
+        print::end_line(rt);
         return true;
     }
     if check::same(word, b"check-table") {
-        return tables::check(line, table);
+        return tables::check(rt, line, table);
     }
     if check::same(word, b"check-cuts") {
-        tables::check_cuts(table);
+        tables::check_cuts(rt, table);
         return true;
     }
     if check::same(word, b"check-journal") {
-        return journals::check(line, table, records);
+        return journals::check(rt, line, table, records);
     }
     if check::same(word, b"run") {
-        return stimuli::run(line, table, records, false);
+        return stimuli::run(rt, line, table, records, false);
     }
     if check::same(word, b"run-and-check") {
-        return stimuli::run(line, table, records, true);
+        return stimuli::run(rt, line, table, records, true);
     }
     if check::same(word, b"react") {
-        return reactions::react(line, table);
+        return reactions::react(rt, line, table);
     }
     false
 }

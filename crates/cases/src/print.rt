@@ -1,27 +1,27 @@
 // The parts of a line on standard output.
-use libc::STDOUT_FILENO;
+use std::io::Write;
 
-pub fn text(words: &[u8]) {
-    io::write_all(STDOUT_FILENO, words);
+pub fn text(rt: &HostRuntime, words: &[u8]) {
+    let _ = rt.stdout().write_all(words);
 }
 
 // A number after what it is.
-pub fn number(words: &[u8], n: u64) {
-    text(words);
-    io::print_decimal(STDOUT_FILENO, n);
+pub fn number(rt: &HostRuntime, words: &[u8], n: u64) {
+    text(rt, words);
+    let _ = print!(rt; "{n}");
 }
 
-pub fn end_line() {
-    text(b"\n");
+pub fn end_line(rt: &HostRuntime) {
+    text(rt, b"\n");
 }
 
 // The end of a line: the refusal and its place; refusal 0 means that it passes.
-pub fn verdict(refusal: u32, place: usize) {
+pub fn verdict(rt: &HostRuntime, refusal: u32, place: usize) {
     if refusal == 0 {
-        text(b": passes\n");
+        text(rt, b": passes\n");
         return;
     }
-    number(b": refused ", refusal as u64);
-    number(b" at ", place as u64);
-    end_line();
+    number(rt, b": refused ", refusal as u64);
+    number(rt, b" at ", place as u64);
+    end_line(rt);
 }

@@ -5,7 +5,7 @@ use spelling::words::Reading;
 use spelling::{filled, words};
 
 // The line's first word is the room for the journal, in bytes.
-pub fn run(line: &[u8], table: &[u8], records: &[u8], and_check: bool) -> bool {
+pub fn run(rt: &HostRuntime, line: &[u8], table: &[u8], records: &[u8], and_check: bool) -> bool {
     let Reading::Number(limit) = words::number(words::first_word(line)) else {
         return false;
     };
@@ -14,12 +14,15 @@ pub fn run(line: &[u8], table: &[u8], records: &[u8], and_check: bool) -> bool {
     let Reading::Number(size) = spelling::of_case(case, records, &mut room) else {
         return false;
     };
-    print::text(spelling::name(case));
+    print::text(rt, spelling::name(case));
     let mut journal = [0u8; 65537];
-    let length = show(run_within(table, filled(&room, size), &mut journal, limit));
+    let length = show(
+        rt,
+        run_within(table, filled(&room, size), &mut journal, limit),
+    );
     if and_check {
-        print::text(b"its journal");
-        journals::show(journal::check(table, filled(&journal, length)));
+        print::text(rt, b"its journal");
+        journals::show(rt, journal::check(table, filled(&journal, length)));
     }
     true
 }
@@ -33,12 +36,12 @@ fn run_within(table: &[u8], stimulus: &[u8], journal: &mut [u8], limit: usize) -
 }
 
 // Gives the journal's length.
-fn show(answer: Answer) -> usize {
+fn show(rt: &HostRuntime, answer: Answer) -> usize {
     let Answer::Written(length) = answer else {
-        print::verdict(answer.number(), answer.place());
+        print::verdict(rt, answer.number(), answer.place());
         return 0;
     };
-    print::number(b": journal of ", length as u64);
-    print::text(b" bytes\n");
+    print::number(rt, b": journal of ", length as u64);
+    print::text(rt, b" bytes\n");
     length
 }

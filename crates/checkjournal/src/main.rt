@@ -4,31 +4,47 @@
 
 ghost use Rattle.io.specs.Counts.{IsPrefixLen};
 
-use libc::STDOUT_FILENO;
+use std::fs::File;
+use std::io::{Read, Write};
+use std::rt::Files;
 
-// Reads the file's first bytes, as many as the buffer holds, and gives their number. A file that can't be opened or read counts as empty.
-fn read_file(name: &[u8], buffer: &mut [u8]) -> usize
+// Reads on until the buffer is full or the input ends, and gives how many bytes it read; none where a read failed.
+fn read_whole(file: &mut impl Read, buffer: &mut [u8]) -> usize
     ensures { IsPrefixLen result buffer.new }
 {
-    let file = os::open_read(name);
-    if file < 0 {
-        return 0;
+    let mut size = 0;
+    while size < buffer.len() {
+        match file.read(&mut buffer[size..]) {
+            Ok(0) => break,
+            Ok(n) => size += n,
+            Err(_) => return 0,
+        }
     }
-    let size = io::read_full(file, buffer);
-    // Where a read failed the next one fails too, and at the file's end it gives 0.
-    let after = libc::read(file, &mut [0u8; 1]);
-    libc::close(file);
-    if after < 0 { 0 } else { size }
+    // Whatever comes after them is read too, so that a file which cannot be read there counts as empty.
+    match file.read(&mut [0u8; 1]) {
+        Ok(_) => size,
+        Err(_) => 0,
+    }
 }
 
-fn main() {
+// Reads the file's first bytes, as many as the buffer holds, and gives their number. A file that can't be opened or read counts as empty.
+fn read_file(rt: &impl Files, name: &str, buffer: &mut [u8]) -> usize
+    ensures { IsPrefixLen result buffer.new }
+{
+    match File::open(rt, name) {
+        Ok(mut file) => read_whole(&mut file, buffer),
+        Err(_) => 0,
+    }
+}
+
+fn main(rt: HostRuntime) {
     let mut table = [0u8; 65536];
-    let table_size = read_file(b"table.bin", &mut table);
+    let table_size = read_file(&rt, "table.bin", &mut table);
     // One byte more than a journal may have, so that a longer one is told from it.
     let mut records = [0u8; 65537];
-    let records_size = read_file(b"journal.bin", &mut records);
+    let records_size = read_file(&rt, "journal.bin", &mut records);
     let answer = journal::check(&table[..table_size], &records[..records_size]);
     let mut text = [0u8; 256];
     let text_size = line::write(answer, &mut text);
-    io::write_all(STDOUT_FILENO, &text[..text_size]);
+    let _ = rt.stdout().write_all(&text[..text_size]);
 }

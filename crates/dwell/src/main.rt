@@ -3,113 +3,178 @@
 // the lines by `sheet`; here files are read and lines are written out.
 #![tactic(auto)]
 
+ghost use Rattle.std.specs.Prelude.{IfOk};
 ghost use Rattle.io.specs.Counts.{IsPrefixLen};
 
-use libc::{STDERR_FILENO, STDOUT_FILENO};
 use report::Report;
+use std::env::FillError;
+use std::fs::File;
+use std::io;
+use std::io::{IsTerminal, Read, Write};
+use std::rt::{Env, Files};
 
 // So many files are read between two lines that say how far it is.
 const STRIDE: usize = 100;
 
+// As many bytes of a name are read: no path is longer.
+const LONGEST_PATH: usize = 4096;
+
+fn print(rt: &HostRuntime, text: &[u8]) {
+    let _ = rt.stdout().write_all(text);
+}
+
+// What the system says of an error, without the error's number behind it.
+fn without_number(text: &[u8]) -> &[u8] {
+    for k in 0..text.len() {
+        if text[k..].starts_with(b" (os error ") {
+            return &text[..k];
+        }
+    }
+    text
+}
+
+// Says on standard error why the file could not be opened or read.
+fn tell_failed(rt: &HostRuntime, name: &[u8], error: &io::Error) {
+    let mut text = [0u8; 512];
+    let mut room = &mut text[..];
+    let _ = write!(room, "{error}");
+    let size = 512usize.saturating_sub(room.len());
+    let mut out = rt.stderr();
+    let _ = out.write_all(name);
+    let _ = out.write_all(b": ");
+    let _ = out.write_all(without_number(&text[..size]));
+    let _ = out.write_all(b"\n");
+}
+
+// Opens the file. A name that is not UTF-8 text opens none.
+fn open<R: Files>(rt: &R, name: &[u8]) -> io::Result<R::File> {
+    match str::from_utf8(name) {
+        Ok(path) => File::open(rt, path),
+        Err(_) => Err(io::Error::from(io::ErrorKind::InvalidFilename)),
+    }
+}
+
+// Reads on until the buffer is full or the input ends, and gives how many bytes it read.
+fn read_whole(file: &mut impl Read, buffer: &mut [u8]) -> io::Result<usize>
+    ensures { IfOk result (λ n. IsPrefixLen n buffer.new) }
+{
+    let mut size = 0;
+    while size < buffer.len() {
+        let n = file.read(&mut buffer[size..])?;
+        if n == 0 {
+            break;
+        }
+        size += n;
+    }
+    // Whatever comes after them is read too, so that a file which cannot be read there counts as empty.
+    file.read(&mut [0u8; 1])?;
+    Ok(size)
+}
+
+fn read_named(rt: &impl Files, name: &[u8], buffer: &mut [u8]) -> io::Result<usize>
+    ensures { IfOk result (λ n. IsPrefixLen n buffer.new) }
+{
+    let mut file = open(rt, name)?;
+    read_whole(&mut file, buffer)
+}
+
 // Reads the file's first bytes, as many as the buffer holds, and gives their number. A file that can't be opened or read counts as empty,
 // and the reason is said on standard error.
-fn read_file(name: &[u8], buffer: &mut [u8]) -> usize
+fn read_file(rt: &HostRuntime, name: &[u8], buffer: &mut [u8]) -> usize
     ensures { IsPrefixLen result buffer.new }
 {
-    let file = os::open_read(name);
-    if file < 0 {
-        os::fail(name);
-        return 0;
+    match read_named(rt, name, buffer) {
+        Ok(size) => size,
+        Err(error) => {
+            tell_failed(rt, name, &error);
+            0
+        }
     }
-    let size = io::read_full(file, buffer);
-    // Where a read failed the next one fails too, and at the file's end it gives 0.
-    let after = libc::read(file, &mut [0u8; 1]);
-    if after < 0 {
-        os::fail(name);
-    }
-    libc::close(file);
-    if after < 0 { 0 } else { size }
 }
 
-fn print_refused(name: &[u8], number: u32, place: usize) {
+fn print_refused(rt: &HostRuntime, name: &[u8], number: u32, place: usize) {
     let mut text = [0u8; 65536];
     let size = sheet::write_refused(name, number, place, &mut text);
-    io::write_all(STDOUT_FILENO, &text[..size]);
+    print(rt, &text[..size]);
 }
 
-fn print_sheet(report: Report) {
+fn print_sheet(rt: &HostRuntime, report: Report) {
     let mut text = [0u8; 65536];
     let size = sheet::write(report, &mut text);
-    io::write_all(STDOUT_FILENO, &text[..size]);
+    print(rt, &text[..size]);
 }
 
-fn add_file(report: Report, name: &[u8]) -> Report {
+fn add_file(rt: &HostRuntime, report: Report, name: &[u8]) -> Report {
     // One byte more than a journal may have, so that a longer one is told from it.
     let mut records = [0u8; 65537];
-    let size = read_file(name, &mut records);
+    let size = read_file(rt, name, &mut records);
     let added = report.add(&records[..size]);
     let answer = added.answer;
     let number = answer.number();
     if number != 0 {
-        print_refused(name, number, answer.place());
+        print_refused(rt, name, number, answer.place());
     }
     added.report
 }
 
 // A name that is longer than any path is cut, and opens no file.
-fn add_argument(report: Report, i: usize) -> Report {
-    let mut path = io::buffer();
-    let size = os::arg(i, &mut path);
-    if os::errno() != 0 {
-        return add_file(report, &path);
+fn add_argument(rt: &HostRuntime, report: Report, i: usize) -> Report {
+    let mut path = [0u8; LONGEST_PATH];
+    match rt.arg(i, &mut path) {
+        Ok(size) => add_file(rt, report, &path[..size]),
+        Err(_) => add_file(rt, report, &path),
     }
-    add_file(report, &path[..size])
 }
 
-fn print_progress(done: usize, all: usize) {
-    io::print_decimal(STDERR_FILENO, done as u64);
-    io::write_all(STDERR_FILENO, b" of ");
-    io::print_decimal(STDERR_FILENO, all as u64);
-    io::write_all(STDERR_FILENO, b" journals\n");
+fn print_progress(rt: &HostRuntime, done: usize, all: usize) {
+    let _ = eprintln!(rt; "{done} of {all} journals");
 }
 
 // Said at a terminal, and where many files are read.
-fn tell_progress(done: usize, all: usize) {
-    let told = (libc::isatty(STDERR_FILENO) != 0) | (all > STRIDE);
-    if told & ((done % STRIDE == 0) | (done == all)) {
-        print_progress(done, all);
+fn tell_progress(rt: &HostRuntime, done: usize, all: usize) {
+    let told = rt.stderr().is_terminal() || all > STRIDE;
+    if told && (done % STRIDE == 0 || done == all) {
+        print_progress(rt, done, all);
     }
 }
 
-fn add_all(report: Report, all: usize) -> Report {
+fn add_all(rt: &HostRuntime, report: Report, all: usize) -> Report {
     let mut sum = report;
-    let mut done = 0;
-    while done < all {
-        done += 1;
-        sum = add_argument(sum, done);
-        tell_progress(done, all);
+    for k in 0..all {
+        sum = add_argument(rt, sum, k + 1);
+        tell_progress(rt, k + 1, all);
     }
     sum
 }
 
-fn print_report(all: usize) {
+fn print_report(rt: &HostRuntime, all: usize) {
     let mut table = [0u8; 65536];
-    let size = read_file(b"table.bin", &mut table);
+    let size = read_file(rt, b"table.bin", &mut table);
     let begun = report::begin(&table[..size]);
     let answer = begun.answer;
     let number = answer.number();
     if number != 0 {
-        print_refused(b"table.bin", number, answer.place());
+        print_refused(rt, b"table.bin", number, answer.place());
         return;
     }
-    print_sheet(add_all(begun.report, all));
+    print_sheet(rt, add_all(rt, begun.report, all));
 }
 
-fn main() {
-    let arguments = os::arg_count();
-    if arguments < 2 {
-        io::write_all(STDERR_FILENO, b"usage: dwell JOURNAL...\n");
+// How many words stand after the program's name.
+fn argument_count(rt: &impl Env) -> usize {
+    for k in 0..usize::MAX {
+        if let Err(FillError::NotPresent) = rt.arg(k, &mut [0u8; 1]) {
+            return k.saturating_sub(1);
+        }
+    }
+    usize::MAX
+}
+
+fn main(rt: HostRuntime) {
+    let all = argument_count(&rt);
+    if all == 0 {
+        let _ = rt.stderr().write_all(b"usage: dwell JOURNAL...\n");
         return;
     }
-    print_report(arguments - 1);
+    print_report(&rt, all);
 }

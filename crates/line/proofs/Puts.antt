@@ -27,6 +27,19 @@ puts_copied text before at room part count counted is =
       ends = omega arith;
     }
 
+-- The text alone is lent to the copy, of as many bytes: what is before it and after it stays.
+pub puts_placed : (text before : List ℕ) (at count : ℕ) → count ≡ length text → at + length text ≤ length before →
+    Puts text before at (take at before ++ (text ++ drop count (drop at before))) (at + length text)
+puts_placed text before at count counted room =
+    let rest = drop count (drop at before) in
+    let front : length (take at before ++ text) ≡ at + length text = simp (length-append, length-take) (omega arith) in
+    let after : take at before ++ (text ++ rest) ≡ (take at before ++ text) ++ rest = simp append_assoc in
+    record {
+      written = rw after (take_at (take at before ++ text) rest (at + length text) front);
+      rest = rw after (drop_at (take at before ++ text) rest (at + length text) front ∙ rw counted (drop-drop (length text) at before));
+      ends = refl;
+    }
+
 -- What is written where a text ended makes one longer text with it.
 pub puts_both : {bytes before : List ℕ} {at : ℕ} {after : List ℕ} {end : ℕ} {more later : List ℕ} {last : ℕ} →
     Puts bytes before at after end → Puts more after end later last → Puts (bytes ++ more) before at later last

@@ -7,8 +7,7 @@
 
 pub mod words;
 
-use bytes::scan::find;
-use words::Reading;
+use words::{Reading, find};
 
 // One byte more than a journal may have.
 pub type Room = [u8; 65537];
@@ -123,7 +122,8 @@ pub fn of_case(case: &[u8], start: &[u8], room: &mut Room) -> Reading {
     if start.len() > 65537 {
         return Reading::Unclear;
     }
-    let size = bytes::copy(start, room);
+    let size = start.len();
+    room[..size].copy_from_slice(start);
     let colon = find(case, 0, case.len(), b':');
     add(words::after(case, colon), room, size)
 }

@@ -1,13 +1,30 @@
 // Lines of text, the words of a line, and the numbers among them.
-ghost use Rattle.std.specs.Prelude.{◌≤◌, ◌-◌, length};
-
-use bytes::scan::find;
+ghost use Rattle.std.specs.Prelude.{◌≡◌, ℕ, ◌-◌, ◌<◌, ◌≤◌, ◌≢◌, length, slice_index};
 
 // A number, unless what was read cannot be understood.
 #[derive(Clone, Copy)]
 pub enum Reading {
     Number(usize),
     Unclear,
+}
+
+// The first place from `from` on, and before `to`, where the byte stands; `to` where there is none.
+pub fn find(text: &[u8], from: usize, to: usize, byte: u8) -> usize
+    requires from_to { from ≤ to }
+    requires within { to ≤ length text.now }
+    ensures low { from ≤ result }
+    ensures high { result ≤ to }
+    ensures before { (k : ℕ) → from ≤ k → k < result → slice_index text.now k ≢ byte }
+    ensures found { result < to → slice_index text.now result ≡ byte }
+{
+    let mut n = from;
+    while n < to {
+        if text[n] == byte {
+            return n;
+        }
+        n += 1;
+    }
+    n
 }
 
 // What stands before a place, and what stands after it. A place past the end is the end.
