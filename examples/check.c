@@ -1,7 +1,7 @@
 /* An example host: checks a journal, or a short journal as it is, without the journal that it stands for. It prints the numbers of the
  * run, or the refusal.
  *
- *   rt staticlib krossvil
+ *   kit/native/build x86-64
  *   gcc -O2 -Iinclude examples/check.c target/staticlib/libkrossvil.a -o check
  *   ./check examples/short-journal/table.bin examples/short-journal/short.bin
  */

@@ -1,7 +1,7 @@
 /* An example host: converts a table that was made before there was KROSSVIL_IDLE_SET. It prints how many states have changed, or the
  * refusal, and then writes nothing.
  *
- *   rt staticlib krossvil
+ *   kit/native/build x86-64
  *   gcc -O2 -Iinclude examples/convert.c target/staticlib/libkrossvil.a -o convert
  *   ./convert examples/idle-sets/old-table.bin table.bin
  */

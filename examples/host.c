@@ -1,6 +1,6 @@
 /* An example host: runs a stimulus on a table, checks the journal that comes out, and asks for a reaction time.
  *
- *   rt staticlib krossvil
+ *   kit/native/build x86-64
  *   gcc -O2 -Iinclude examples/host.c target/staticlib/libkrossvil.a -o host
  *   ./host examples/classroom/table.bin examples/classroom/stimulus.bin
  */

@@ -2,7 +2,7 @@
  * before. It polls every 2 units, appends its journal to a file record by record, and prints changes of the output and, at a held test, how
  * long is left. Killed at any moment and started again with the same files it goes on; lines that it had taken are passed over.
  *
- *   rt staticlib krossvil
+ *   kit/native/build x86-64
  *   gcc -O2 -Iinclude examples/live.c target/staticlib/libkrossvil.a -o live
  *   ./live examples/classroom/table.bin journal.bin memory.bin < examples/live/sensor.txt
  */

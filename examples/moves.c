@@ -1,7 +1,7 @@
 /* An example host: asks how long it takes to a target in several moves. It prints the reaction time and the target set, the sums row by
  * row, and one worst path. Sets are numbers, in which 2^i stands for member i.
  *
- *   rt staticlib krossvil
+ *   kit/native/build x86-64
  *   gcc -O2 -Iinclude examples/moves.c target/staticlib/libkrossvil.a -o moves
  *   ./moves examples/back-to-idle/table.bin 31 1 3
  */

@@ -1,7 +1,7 @@
 /* An example host: writes what is sound of a torn journal. It prints how many bytes were kept and dropped, and the refusal that
  * stopped it, if the journal was not sound to its end; or it prints only a refusal, and then writes nothing.
  *
- *   rt staticlib krossvil
+ *   kit/native/build x86-64
  *   gcc -O2 -Iinclude examples/salvage.c target/staticlib/libkrossvil.a -o salvage
  *   ./salvage examples/torn-journal/table.bin examples/torn-journal/torn.bin salvaged.bin
  */

@@ -2,7 +2,7 @@
  * or the refusal; one that is refused leaves the report as it was. Then come the number of journals and, for each state, its slots,
  * the entries into it, and its slots with each input. The table is loaded once, so that all journals are read under the same.
  *
- *   rt staticlib krossvil
+ *   kit/native/build x86-64
  *   gcc -O2 -Iinclude examples/season.c target/staticlib/libkrossvil.a -o season
  *   cd examples/season && ../../season table.bin early.bin torn.bin late.bin
  */

@@ -1,7 +1,7 @@
 /* An example host: writes a journal as a short journal, and a short journal as the journal that it stands for. It prints how many
  * bytes were written, or the refusal, and then writes nothing.
  *
- *   rt staticlib krossvil
+ *   kit/native/build x86-64
  *   gcc -O2 -Iinclude examples/shorten.c target/staticlib/libkrossvil.a -o shorten
  *   ./shorten examples/short-journal/table.bin examples/short-journal/journal.bin short.bin
  *   ./shorten examples/short-journal/table.bin short.bin journal.bin

@@ -1,7 +1,7 @@
 /* An example host: asks how long a reaction takes, and how long in whole units; for one move, or for as many as are named. Sets are
  * numbers, member i as 2^i. It prints the time, the target and the tight time, or the refusal.
  *
- *   rt staticlib krossvil
+ *   kit/native/build x86-64
  *   gcc -O2 -Iinclude examples/tight.c target/staticlib/libkrossvil.a -o tight
  *   ./tight examples/classroom/table.bin 3 1
  *   ./tight examples/back-to-idle/table.bin 31 1 3

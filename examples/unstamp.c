@@ -1,7 +1,7 @@
 /* An example host: reads a stamped journal and writes its long form, the journal with its times. It prints how many bytes that
  * has, or the refusal, and then writes nothing.
  *
- *   rt staticlib krossvil
+ *   kit/native/build x86-64
  *   gcc -O2 -Iinclude examples/unstamp.c target/staticlib/libkrossvil.a -o unstamp
  *   ./unstamp examples/short-clock/stamped.bin journal.bin
  */

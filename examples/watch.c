@@ -1,7 +1,7 @@
 /* An example host: checks a journal of any length from standard input, record by record, with the memory of one record. It prints the
  * numbers of the run, or the refusal, as the program checkjournal does.
  *
- *   rt staticlib krossvil
+ *   kit/native/build x86-64
  *   gcc -O2 -Iinclude examples/watch.c target/staticlib/libkrossvil.a -o watch
  *   ./watch examples/classroom/table.bin < examples/classroom/journal.bin
  */

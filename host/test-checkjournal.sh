@@ -1,7 +1,6 @@
 #!/usr/bin/env bash
 # Runs the program `checkjournal` on files of every kind that docs/RULES.md tells apart, each in a folder of its own, and compares the
 # line that it prints, to the byte. The last line is 'N passed, M failed'; the exit status is 0 if none failed.
-# Alone: two calls of `rt check` at the same time may take each other's notes for their own.
 set -euo pipefail
 
 root=$(cd "$(dirname "${BASH_SOURCE[0]}")/.." && pwd)
@@ -83,7 +82,7 @@ spelled() { # NAME DEFINITION FILE: the file has the bytes that this definition 
     fi
 }
 
-if ! (cd "$root" && rt check checkjournal) >"$room/built" 2>&1; then
+if ! "$root/host/build-program" checkjournal >"$room/built" 2>&1; then
     cat "$room/built"
     exit 1
 fi

@@ -1,7 +1,6 @@
 #!/usr/bin/env bash
 # Runs the program `dwell` on journals of the classroom table, each case in a folder of its own, and compares what it prints, to the byte.
 # The last line is 'N passed, M failed'; the exit status is 0 if none failed.
-# Alone: two calls of `rt check` at the same time may take each other's notes for their own.
 set -euo pipefail
 
 root=$(cd "$(dirname "${BASH_SOURCE[0]}")/.." && pwd)
@@ -61,7 +60,7 @@ case_of() { # NAME ARGUMENT...: ends a case
     fi
 }
 
-if ! (cd "$root" && rt check dwell) >"$room/built" 2>&1; then
+if ! "$root/host/build-program" dwell >"$room/built" 2>&1; then
     cat "$room/built"
     exit 1
 fi

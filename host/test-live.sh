@@ -161,6 +161,7 @@ if [ "$self" = no ]; then
     mkdir "$out/files"
     cp "$table" "$out/files/table.bin"
     cp "$out/killed.journal" "$out/files/journal.bin"
+    host/build-program checkjournal || stop 'checkjournal was not built'
     [ "$(cd "$out/files" && ../../../../host/run-program checkjournal)" = "$("${run[@]}" "$out/watch" "$table" <"$out/killed.journal")" ]
     result $? 'it prints the line that checkjournal prints'
 fi

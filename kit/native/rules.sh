@@ -2,17 +2,20 @@
 # shellcheck shell=bash
 
 look_at_module() { # FILE
-    look_at_head "$1"
-    look_at_instructions "$1"
+    awk -f kit/native/plain.awk "$1" >"$1.plain"
+    look_at_head "$1.plain"
+    look_at_instructions "$1.plain"
     look_at_functions_for_c "$1"
     look_at_slots "$1"
 }
 
-# Outside of functions only these lines are let through, so that nothing is left by which two machines could differ.
+# Outside of functions only these lines are let through, so that nothing is left by which two machines could differ. The module writes the tag
+# of an enum as a number of 32 or 64 bits and reads it as one of 8, which wants the lowest byte first; and it loads several numbers at once,
+# which wants one of 64 bits at a place that 8 divides, as on x86-64.
 look_at_head() { # FILE
-    local value='((noundef|zeroext) )*(void|ptr|i[0-9]+)( (noundef|zeroext))*' range='i[0-9]+ -?[0-9]+'
+    local value='((noundef|zeroext) )*(void|ptr|row|i[0-9]+)( (noundef|zeroext))*' range='i[0-9]+ -?[0-9]+'
     local word='nounwind|nocallback|nocreateundeforpoison|nofree|nosync|speculatable|willreturn|cold|noreturn|memory\([a-z: ]+\)'
-    local known='target (datalayout|triple) = "[^"]*"'
+    local known='target datalayout = "e-([^"]*-)?i64:64-[^"]*"|target triple = "[^"]*"'
     known+="|define (internal )?$value @(\"[^\"]+\"|[a-z0-9_]+)\\(($value %[a-z0-9.]+(, )?)*\\) #[0-9]+ \\{|\\}|[a-z0-9.]+:( +;.*)?"
     known+='|declare [a-z0-9]+ @llvm\.[a-z]+(\.[pi][0-9]+)*\([^()]*(captures\(none\)[^()]*)*\) #[0-9]+' # none of a processor's own
     known+="|attributes #[0-9]+ = \\{( ($word|noinline|alwaysinline|inlinehint))+ \\}|![0-9]+ = !\\{($range, $range)?\\}"
@@ -24,12 +27,12 @@ look_at_head() { # FILE
 # A pointer of 32 bits in a slot of 64 is sound while pointers are only stored, loaded, passed on and moved by offsets: never made from
 # a number, turned into one or compared. So only these instructions are let through, and none of these words.
 look_at_instructions() { # FILE
-    local known='alloca|load|store|getelementptr|call|ret|br|switch|unreachable|phi|select|icmp'
+    local known='alloca|load|store|getelementptr|call|ret|br|switch|unreachable|phi|select|icmp|extractvalue'
     known+='|add|sub|mul|udiv|urem|sdiv|srem|and|or|xor|shl|lshr|ashr|zext|sext|trunc'
     if grep -nE '^  [^ ]' "$1" | grep -vE "^[0-9]+:  (%[^ ]+ = )?(tail )?($known) |^[0-9]+:  (unreachable|ret void)\$|^[0-9]+:  \]\$"; then
         stop 'the module has an instruction that was not thought of'
     fi
-    if grep -nE 'icmp [a-z]+ ptr|addrspace|volatile|atomic| asm |<[0-9]+ x |x ptr|\{ ?ptr' "$1"; then
+    if grep -nE 'icmp [a-z]+ ptr|addrspace|volatile|atomic| asm |<[0-9]+ x |x ptr|^  .*[{}]' "$1"; then
         stop 'the module has what is not sound with pointers of 32 bits, or was not thought of'
     fi
 }

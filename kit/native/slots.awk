@@ -43,6 +43,33 @@ function access(type, place) {
         elsewhere[name SUBSEP $1] = 1
 }
 
+# Several values at once, each at its own place: as far from the start where a pointer has 32 bits as where it has 64.
+function access_row(types, place,    count, k, at, other, each, type) {
+    count = split(types, each, /, /)
+    at = other = 0
+    for (k = 1; k <= count; k++) {
+        type = each[k]
+        at = up_to(at, bytes_of(type))
+        other = up_to(other, type == "ptr" ? 4 : bytes_of(type))
+        if (at != other)
+            fail("a place that a pointer of 32 bits moves")
+        add(root_of(place), offset_of(place) + at, type)
+        if (type == "ptr" && root_of(place) in elsewhere)
+            fail("a pointer at a place that is calculated")
+        at += bytes_of(type)
+        other += type == "ptr" ? 4 : bytes_of(type)
+    }
+}
+
+function up_to(at, size) { return at % size ? at + size - at % size : at }
+
+/ = load [{]/ {
+    match($0, /[{] [^}]* [}]/)
+    types = substr($0, RSTART + 2, RLENGTH - 4)
+    split(substr($0, RSTART + RLENGTH), words, " ")
+    access_row(types, value(words[3]))
+    next
+}
 / = load / { access(value($4), value($6)) }
 /^  store / { access($2, value($5)) }
 / = (phi|select) .*ptr/ { fail("a pointer that is chosen") }

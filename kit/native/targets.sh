@@ -11,7 +11,7 @@ describe() { # TARGET
     x86-64) triple=x86_64-unknown-linux-gnu flags=() made=target/staticlib/libkrossvil.a ;; # as the toolchain writes it
     # No more of WebAssembly than this is used, whatever the compiler takes by itself.
     wasm) triple=wasm32-unknown-unknown flags=(-mcpu=mvp -msign-ext -mbulk-memory -mbulk-memory-opt) needs='' made=target/kit/krossvil.wasm ;;
-    arm64-linux) triple=aarch64-unknown-linux-gnu flags=(-fPIC) ;;
+    arm64-linux) triple=aarch64-unknown-linux-gnu flags=(-fPIC) needs=memset ;;
     armv7-linux) triple=armv7-unknown-linux-gnueabihf flags=(-fPIC -mfpu=vfpv3-d16) needs="__aeabi_uidivmod $needs" ;;
     riscv64-linux) triple=riscv64-unknown-linux-gnu flags=(-fPIC -march=rv64gc -mabi=lp64d) ;;
     cortex-m3) triple=thumbv7m-unknown-none-gnueabi flags=(-mcpu=cortex-m3) ;;

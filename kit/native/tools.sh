@@ -1,9 +1,9 @@
 # To be sourced: where the toolchain stands, with its compiler and its linker, how a module is printed, and how a build stops.
+# RATTLE_HOME, where it is set, stands for the toolchain's folder: kit/dist/try-arm has another compiler there.
 # shellcheck shell=bash disable=SC2034
 export LC_ALL=C
-home=${RATTLE_HOME:-$(dirname "$(dirname "$(rt doc)")")}
-on=on/$(uname -m)
-tools=$home/$on/toolchain
+home=${RATTLE_HOME:-$(dirname "$(rt doc)")}
+tools=$home/toolchain
 
 stop() {
     printf '%s: %s\n' "$0" "$1" >&2

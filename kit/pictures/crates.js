@@ -8,7 +8,7 @@
  * @returns {Needs}
  */
 export function needsOf(text) {
-  const lines = text.split('\n').filter((line) => /^\w+:/.test(line)).map((line) => line.split(':'));
+  const lines = text.split('\n').filter((line) => /^\w+( staticlib)?:/.test(line)).map((line) => line.split(/(?: staticlib)?:/));
   const own = new Set(lines.map(([name]) => name));
   return new Map(lines.map(([name, needs]) => [name, needs.split(' ').filter((need) => own.has(need))]));
 }
@@ -49,6 +49,6 @@ export function rowsOf(needs) {
 export function partsOf(text) {
   return text.split(/^#/m).slice(1).map((part, k) => {
     const [comment, ...lines] = part.split('\n');
-    return { title: k === 0 ? 'The library' : comment.trim().split(/[.;]/)[0], names: new Set(lines.map((line) => line.split(':')[0])) };
+    return { title: k === 0 ? 'The library' : comment.trim().split(/[.;]/)[0], names: new Set(lines.map((line) => line.split(/(?: staticlib)?:/)[0])) };
   });
 }

@@ -7,7 +7,14 @@ import { tmpdir } from 'node:os';
 import { join } from 'node:path';
 import { test } from 'node:test';
 import { sample } from './core.js';
-import { choose, expected, open, paneText, setPane } from './page-world.js';
+import { choose, expected, open as openPage, paneText, setPane } from './page-world.js';
+
+/** The page in a tab, where a click on print opens no window of the browser's: the tests print by the browser's protocol, which waits for none. */
+const open = async (t, ...rest) => {
+  const tab = await openPage(t, ...rest);
+  await tab.value('window.print = () => {}, 0');
+  return tab;
+};
 
 const SHEETS = [['A4', 8.27, 11.69], ['letter', 8.5, 11]].flatMap(([name, paperWidth, paperHeight]) =>
   [false, true].map((landscape) => ({ name: `${name} ${landscape ? 'across' : 'upright'}`, paperWidth, paperHeight, landscape })));

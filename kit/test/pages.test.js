@@ -52,7 +52,7 @@ test('the reading order names every definition', () => {
   const page = read('docs/READING.md');
   const [order, helpers] = page.split('## Helpers');
   const named = (file) => order.includes(`](../${file})`) || helpers.includes(`\`${basename(file)}\``);
-  const files = below('crates').filter((file) => /\/specs\/\w+\.antt$/.test(file) && basename(file) !== 'Lib.antt');
+  const files = below('crates').filter((file) => /^crates\/\w+\/specs\/\w+\.antt$/.test(file) && basename(file) !== 'Lib.antt');
   assert.ok(files.length > 50);
   assert.deepEqual(files.filter((file) => !named(file)), []);
   for (const [, helper] of helpers.split('## ')[0].matchAll(/`(\w+\.antt)`/g)) assert.ok(files.some((file) => basename(file) === helper), helper);
