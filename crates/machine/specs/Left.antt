@@ -21,6 +21,6 @@ abbrev pub LeftUntilFree : Type 0
 LeftUntilFree = (t : Table) (initial input : ℕ) (rs : List Record) (last : Machine) → Runs t (start initial input) rs last →
     (before : Machine) (time : ℕ) → Has (after t) is_test (left t) (start initial input) rs before time → UntilFree t before time
 
--- Over a run no test has more than `mostLeft`, some test has it if there was one, and else it is 0.
+-- Over a run no test has more than `most_left`, some test has it if there was one, and else it is 0.
 abbrev pub LeftOfRunIsMost : Type 0
 LeftOfRunIsMost = (t : Table) (m : Machine) (rs : List Record) → MostOf (after t) is_test (left t) m rs (most_left t m rs)

@@ -1,4 +1,4 @@
--- `underTable`, as an entry meets it that checks a table's bytes and then reads them.
+-- `under_table`, as an entry meets it that checks a table's bytes and then reads them.
 use mathlib.Core.Path.{◌≡◌, sym, ◌∙◌}
 use mathlib.Core.List.{List}
 use Prim.Native.Nat.{ℕ}

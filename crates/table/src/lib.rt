@@ -8,6 +8,7 @@ ghost use Rattle.wire.specs.Field.{field_at};
 ghost use Rattle.wire.specs.Reply.{number_in, place_in};
 ghost use Rattle.table.specs.declared.Counts as declared;
 ghost use Rattle.table.specs.Answer.{reply_of, ◌or_else◌};
+ghost use Rattle.table.specs.Entries.{zeros};
 ghost use Rattle.table.specs.Inner.{PlacesOf};
 ghost use Rattle.table.specs.Check.{counts_in, counts_in_range};
 ghost use Rattle.table.specs.Check.{counts_answer, bound_answer, holds_answer, timer_sets_answer, timers_answer, tagged, timing_answer};
@@ -370,8 +371,14 @@ pub fn read(s: &[u8]) -> Table
     t
 }
 
-// A table of which nothing has been read.
-pub fn blank() -> Table {
+// A table of which nothing has been read: each of its numbers is 0.
+pub fn blank() -> Table
+    ensures counts { (result.states ≡ 0) × (result.inputs ≡ 0) × (result.outputs ≡ 0) }
+    ensures numbers { (result.initial ≡ 0) × (result.bound ≡ 0) × (result.timers ≡ 0) }
+    ensures rows { (result.output ≡ zeros 32) × (result.next ≡ zeros 1024) }
+    ensures holds { (result.hold ≡ zeros 32) × (result.delayed ≡ zeros 32) }
+    ensures timed { (result.timing ≡ zeros 8) × (result.sets ≡ zeros 128) }
+{
     Table {
         states: 0,
         inputs: 0,

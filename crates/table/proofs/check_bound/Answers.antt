@@ -1,4 +1,4 @@
--- Each way out is a step along `boundAnswer`.
+-- Each way out is a step along `bound_answer`.
 use borrow.Enum.Refused.{opened}
 use native.Mathlib.Omega.{arith}
 use Rattle.table.specs.Check.{bound_answer}

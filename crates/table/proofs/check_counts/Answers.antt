@@ -1,4 +1,4 @@
--- Each way out is a step along `countsAnswer`.
+-- Each way out is a step along `counts_answer`.
 use borrow.Enum.Refused.{opened}
 use native.Mathlib.Omega.{arith}
 use Rattle.table.specs.Check.{counts_answer}

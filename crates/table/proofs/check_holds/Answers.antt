@@ -1,4 +1,4 @@
--- Each way out is a step along `holdsAnswer`; a field that stands lets the next be looked for.
+-- Each way out is a step along `holds_answer`; a field that stands lets the next be looked for.
 use borrow.Enum.Refused.{opened}
 use native.Mathlib.Omega.{arith}
 use Rattle.table.specs.Check.{holds_answer}

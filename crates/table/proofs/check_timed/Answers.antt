@@ -1,4 +1,4 @@
--- Each way out is a step along `timersAnswer`; a field that stands lets the next be looked for.
+-- Each way out is a step along `timers_answer`; a field that stands lets the next be looked for.
 use borrow.Enum.Refused.{opened}
 use Prim.Native.Nat.{◌+◌, ◌*◌, ◌≤◌}
 use native.Mathlib.Omega.{arith}

@@ -1,4 +1,4 @@
--- Each way out is a step along `timerSetsAnswer`.
+-- Each way out is a step along `timer_sets_answer`.
 use borrow.Enum.Refused.{opened}
 use Rattle.table.specs.Check.{timer_sets_answer}
 use Rattle.table.specs.Inner.{bad_word}

@@ -1,4 +1,4 @@
--- Each way out is one outcome of `fieldAnswer`.
+-- Each way out is one outcome of `field_answer`.
 use mathlib.Core.Path.{sym, ◌∙◌}
 use Rattle.table.proofs.Rows.{runs_out, another_field, stands_as_expected}
 use Rattle.table.proofs.fields.expect_field.Goals as goal
