@@ -1,29 +1,30 @@
 // The journal check: docs/RULES.md, refusals 19 to 28.
 use crate::print;
-use journal::Answer;
-use spelling::words::Reading;
+use journal::{Numbers, Refusal};
+use spelling::Unclear;
 
-pub fn check(rt: &HostRuntime, case: &[u8], table: &[u8], records: &[u8]) -> bool {
-    let mut room = [0u8; 65537];
-    let Reading::Number(size) = spelling::of_case(case, records, &mut room) else {
-        return false;
-    };
+// Four lines, as in `tables`: with the check and what shows its answer handed over as closures they are no plainer.
+pub fn check(rt: &HostRuntime, case: &[u8], table: &[u8], records: &[u8]) -> Result<(), Unclear> {
+    let records = spelling::of_case(case, records)?;
     print::text(rt, spelling::name(case));
-    show(rt, journal::check(table, spelling::filled(&room, size)));
-    true
+    show(rt, journal::check(table, &records));
+    Ok(())
 }
 
-pub fn show(rt: &HostRuntime, answer: Answer) {
-    let Answer::Accepted(n) = answer else {
-        print::verdict(rt, answer.number(), answer.place());
-        return;
-    };
-    print::number(rt, b": accepted, T ", n.end as u64);
-    print::number(rt, b", ticks ", n.ticks as u64);
-    print::number(rt, b", moves ", n.moves as u64);
-    print::number(rt, b", state ", n.state as u64);
-    print::number(rt, b", output ", n.output as u64);
-    print::number(rt, b", left ", n.left as u64);
-    print::number(rt, b", longest ", n.longest as u64);
+pub fn show(rt: &HostRuntime, answer: Result<Numbers, Refusal>) {
+    match answer {
+        Ok(n) => show_accepted(rt, n),
+        Err(refusal) => print::refused(rt, refusal),
+    }
+}
+
+fn show_accepted(rt: &HostRuntime, n: Numbers) {
+    print::number(rt, b": accepted, T ", u64::from(n.end));
+    print::number(rt, b", ticks ", u64::from(n.ticks));
+    print::number(rt, b", moves ", u64::from(n.moves));
+    print::number(rt, b", state ", u64::from(n.state));
+    print::number(rt, b", output ", u64::from(n.output));
+    print::number(rt, b", left ", u64::from(n.left));
+    print::number(rt, b", longest ", u64::from(n.longest));
     print::end_line(rt);
 }

@@ -1,5 +1,6 @@
 // The parts of a line on standard output.
 use std::io::Write;
+use wire::Refused;
 
 pub fn text(rt: &HostRuntime, words: &[u8]) {
     let _ = rt.stdout().write_all(words);
@@ -15,13 +16,9 @@ pub fn end_line(rt: &HostRuntime) {
     text(rt, b"\n");
 }
 
-// The end of a line: the refusal and its place; refusal 0 means that it passes.
-pub fn verdict(rt: &HostRuntime, refusal: u32, place: usize) {
-    if refusal == 0 {
-        text(rt, b": passes\n");
-        return;
-    }
-    number(rt, b": refused ", refusal as u64);
-    number(rt, b" at ", place as u64);
+// The end of a line: the refusal's number and its place.
+pub fn refused(rt: &HostRuntime, refusal: impl Refused) {
+    number(rt, b": refused ", u64::from(refusal.number()));
+    number(rt, b" at ", refusal.place() as u64);
     end_line(rt);
 }

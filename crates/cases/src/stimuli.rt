@@ -1,47 +1,58 @@
 // The runtime: docs/RULES.md. The same refusals, the journal that it writes, and the bytes that it leaves.
 use crate::{journals, print};
-use runtime::Answer;
-use spelling::words::Reading;
-use spelling::{filled, words};
+use runtime::Refusal;
+use spelling::Unclear;
+use spelling::words::{number, split_word};
 
-// The line's first word is the room for the journal, in bytes.
-pub fn run(rt: &HostRuntime, line: &[u8], table: &[u8], records: &[u8], and_check: bool) -> bool {
-    let Reading::Number(limit) = words::number(words::first_word(line)) else {
-        return false;
-    };
-    let case = words::after_word(line);
-    let mut room = [0u8; 65537];
-    let Reading::Number(size) = spelling::of_case(case, records, &mut room) else {
-        return false;
-    };
+// One byte more than a journal may have.
+const ROOM: usize = 65537;
+
+pub fn run(rt: &HostRuntime, line: &[u8], table: &[u8], records: &[u8]) -> Result<(), Unclear> {
+    run_into(rt, line, table, records, &mut [0u8; ROOM])?;
+    Ok(())
+}
+
+// The run, and the journal check on what it wrote.
+pub fn run_and_check(
+    rt: &HostRuntime,
+    line: &[u8],
+    table: &[u8],
+    records: &[u8],
+) -> Result<(), Unclear> {
+    let mut journal = [0u8; ROOM];
+    let written = run_into(rt, line, table, records, &mut journal)?;
+    print::text(rt, b"its journal");
+    journals::show(rt, journal::check(table, written));
+    Ok(())
+}
+
+// The line's first word is the room for the journal, in bytes. Gives the journal, none where the run was refused.
+fn run_into<'a>(
+    rt: &HostRuntime,
+    line: &[u8],
+    table: &[u8],
+    records: &[u8],
+    journal: &'a mut [u8; ROOM],
+) -> Result<&'a [u8], Unclear> {
+    let (room, case) = split_word(line);
+    let room = number(room)?.min(ROOM);
+    let stimulus = spelling::of_case(case, records)?;
     print::text(rt, spelling::name(case));
-    let mut journal = [0u8; 65537];
-    let length = show(
-        rt,
-        run_within(table, filled(&room, size), &mut journal, limit),
-    );
-    if and_check {
-        print::text(rt, b"its journal");
-        journals::show(rt, journal::check(table, filled(&journal, length)));
-    }
-    true
+    let length = show(rt, runtime::run(table, &stimulus, &mut journal[..room]));
+    Ok(&journal[..length.min(ROOM)])
 }
 
-// With room for `limit` bytes of journal, or for as many as there are.
-fn run_within(table: &[u8], stimulus: &[u8], journal: &mut [u8], limit: usize) -> Answer {
-    if limit < journal.len() {
-        return runtime::run(table, stimulus, &mut journal[0..limit]);
+// Gives the journal's length, 0 where there is none: an `Option` would be unpacked to that 0 at the one call.
+fn show(rt: &HostRuntime, answer: Result<usize, Refusal>) -> usize {
+    match answer {
+        Ok(length) => {
+            print::number(rt, b": journal of ", length as u64);
+            print::text(rt, b" bytes\n");
+            length
+        }
+        Err(refusal) => {
+            print::refused(rt, refusal);
+            0
+        }
     }
-    runtime::run(table, stimulus, journal)
-}
-
-// Gives the journal's length.
-fn show(rt: &HostRuntime, answer: Answer) -> usize {
-    let Answer::Written(length) = answer else {
-        print::verdict(rt, answer.number(), answer.place());
-        return 0;
-    };
-    print::number(rt, b": journal of ", length as u64);
-    print::text(rt, b" bytes\n");
-    length
 }

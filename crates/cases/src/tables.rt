@@ -1,49 +1,33 @@
 // The table check: docs/RULES.md, "Bytes", and refusals 1 to 8 and 11 to 13.
-ghost use Rattle.std.specs.Prelude.{◌<◌, length};
-
 use crate::print;
-use spelling::words::{Reading, before};
+use spelling::Unclear;
+use table::Refusal;
 
-pub fn check(rt: &HostRuntime, case: &[u8], table: &[u8]) -> bool {
-    let mut room = [0u8; 65537];
-    let Reading::Number(size) = spelling::of_case(case, table, &mut room) else {
-        return false;
-    };
+pub fn check(rt: &HostRuntime, case: &[u8], table: &[u8]) -> Result<(), Unclear> {
+    let table = spelling::of_case(case, table)?;
     print::text(rt, spelling::name(case));
-    show(rt, spelling::filled(&room, size));
-    true
+    show(rt, table::check(&table));
+    Ok(())
 }
 
-fn show(rt: &HostRuntime, table: &[u8]) {
-    let answer = table::check(table);
-    print::verdict(rt, answer.number(), answer.place());
+fn show(rt: &HostRuntime, answer: Result<(), Refusal>) {
+    match answer {
+        Ok(()) => print::text(rt, b": passes\n"),
+        Err(refusal) => print::refused(rt, refusal),
+    }
 }
 
 // The table cut to every length short of the whole. Lengths in a row that get one answer share a line.
 pub fn check_cuts(rt: &HostRuntime, table: &[u8]) {
     let mut from = 0;
-    let mut n = 0;
-    while n < table.len() {
-        if another_answer_after(table, n) {
-            show_cuts(rt, table, from, n);
+    for n in 0..table.len() {
+        let here = table::check(&table[..n]);
+        if here != table::check(&table[..n + 1]) {
+            print::number(rt, b"cut to ", from as u64);
+            print::number(rt, b" .. ", n as u64);
+            print::text(rt, b" bytes");
+            show(rt, here);
             from = n + 1;
         }
-        n += 1;
     }
-}
-
-// One byte more gets another answer.
-fn another_answer_after(table: &[u8], n: usize) -> bool
-    requires { n < length table.now }
-{
-    let here = table::check(before(table, n));
-    let next = table::check(before(table, n + 1));
-    here.number() != next.number() || here.place() != next.place()
-}
-
-fn show_cuts(rt: &HostRuntime, table: &[u8], from: usize, to: usize) {
-    print::number(rt, b"cut to ", from as u64);
-    print::number(rt, b" .. ", to as u64);
-    print::text(rt, b" bytes");
-    show(rt, before(table, to));
 }

@@ -1,16 +1,16 @@
 -- The converter: a table that passes by the old rules, with those delayed sets emptied that do nothing. docs/RULES.md, "Tables".
-use Rattle.std.specs.Prelude.{List, ◌++◌, ◌&&◌, not, ℕ, ◌+◌, take, if◌then◌else◌}
+use Rattle.std.specs.Prelude.{List, ◌++◌, ◌&&◌, not, ℕ, ◌+◌, take, Ok, Err, if◌then◌else◌}
 use Rattle.wire.specs.Choice.{◌=?◌}
 use Rattle.wire.specs.Made.{Made, refused, made}
 use Rattle.table.specs.declared.Counts.{Counts}
 use Rattle.table.specs.declared.Table.{Table}
-use Rattle.table.specs.Answer.{passes?}
 use Rattle.table.specs.Table.{hold_of, delayed_of, timed_with}
 use Rattle.table.specs.Entries.{values, total, filled_to, zeros}
 use Rattle.table.specs.Check.{word_entry, hold_field, delayed_field, counts_in, old_answer}
+use Rattle.table.specs.Under.{under_answer}
 use Rattle.table.specs.Encode.{words}
-use Rattle.convert.specs.declared.Answer.{Answer}
-use Rattle.convert.specs.declared.Answer.TheVariants.{Converted, TableRefused}
+use Rattle.convert.specs.declared.Refusal.TheVariants as why
+use Rattle.convert.specs.Answer.{ConvertAnswer}
 
 -- ---- One state
 
@@ -44,7 +44,6 @@ unfoldable pub changes : Counts → List ℕ → ℕ
 changes c s = total (by_state change s (hold_field c) (delayed_field c)) c.states
 
 -- The refusals of the old check come first.
-unfoldable pub made_of : List ℕ → Made Answer
+unfoldable pub made_of : List ℕ → Made ConvertAnswer
 made_of s =
-    if passes? (old_answer s) then made (Converted (changes (counts_in s) s)) (new_bytes (counts_in s) s)
-    else refused (TableRefused (old_answer s))
+    under_answer (λ refusal. refused (Err (why.Table refusal))) (made (Ok (changes (counts_in s) s)) (new_bytes (counts_in s) s)) (old_answer s)

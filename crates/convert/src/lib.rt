@@ -2,45 +2,41 @@
 // nothing, as the table check now demands.
 #![tactic(auto)]
 
-ghost use Rattle.std.specs.Prelude.{◌≡◌, ◌+◌, ◌*◌, ◌≤◌, length};
+ghost use Rattle.std.specs.Prelude.{◌≡◌, ◌+◌, ◌*◌, ◌≤◌, length, Err};
 ghost use Rattle.wire.specs.Encode.{placed_in};
 ghost use Rattle.wire.specs.Made.{answer_in, buffer_in};
-ghost use Rattle.wire.specs.Reply.{number_in, place_in};
 ghost use Rattle.table.specs.Entries.{values, total};
 ghost use Rattle.table.specs.Encode.{words};
-ghost use Rattle.convert.specs.Answer.{reply_of};
 ghost use Rattle.convert.specs.Convert.{new_set, change, by_state, made_of};
 
 use copies::copy;
 use table::{counts_in, places_of};
-use wire::{number32, put_number32};
+use wire::{Refused, number32, put_number32};
 
-// How many states were changed, or what is turned down.
-#[derive(Clone, Copy)]
-pub enum Answer {
-    Converted(u32),
-    TableRefused(table::Answer),
+#[derive(Clone, Copy, Debug, PartialEq, Eq)]
+pub enum Refusal {
+    Table(table::Refusal),
     BufferTooShort,
 }
 
-impl Answer {
-    pub fn number(self) -> u32
-        ensures { result ≡ number_in (reply_of self) }
-    {
+impl Refused for Refusal {
+    ghost use Rattle.convert.specs.Answer.{convert_refusal, convert_ruled};
+
+    ghost refused = { convert_refusal };
+
+    ghost ruled = { convert_ruled };
+
+    fn number(self) -> u32 {
         match self {
-            Answer::Converted(_) => 0,
-            Answer::TableRefused(answer) => answer.number(),
-            Answer::BufferTooShort => 30,
+            Refusal::Table(refusal) => refusal.number(),
+            Refusal::BufferTooShort => 30,
         }
     }
 
-    pub fn place(self) -> usize
-        ensures { result ≡ place_in (reply_of self) }
-    {
+    fn place(self) -> usize {
         match self {
-            Answer::Converted(_) => 0,
-            Answer::TableRefused(answer) => answer.place(),
-            Answer::BufferTooShort => 0,
+            Refusal::Table(refusal) => refusal.place(),
+            Refusal::BufferTooShort => 0,
         }
     }
 }
@@ -66,31 +62,29 @@ fn write_sets(old: &[u8], holds: usize, sets: usize, n: usize, out: &mut [u8]) -
     ensures holds { out.new ≡ placed_in out.old (sets + 3) (words (values (by_state new_set old.now holds sets) n)) }
 {
     let mut changed = 0;
-    let mut k = 0;
-    while k < n {
+    for k in 0..n {
         let hold = number32(old, holds + 3 + 4 * k);
         let set = number32(old, sets + 3 + 4 * k);
         put_number32(out, sets + 3 + 4 * k, new_set(hold, set));
         changed += change_of(hold, set);
-        k += 1;
     }
     changed
 }
 
-// 30 comes last; only then the new table goes into the buffer.
-pub fn convert(old: &[u8], out: &mut [u8]) -> Answer
-    ensures is { result ≡ answer_in Answer.BufferTooShort (made_of old.now) (length out.old) }
+// How many states were changed, or what is turned down. 30 comes last; only then the new table goes into the buffer.
+pub fn convert(old: &[u8], out: &mut [u8]) -> Result<u32, Refusal>
+    ensures is { result ≡ answer_in (Err Refusal.BufferTooShort) (made_of old.now) (length out.old) }
     ensures holds { out.new ≡ buffer_in (made_of old.now) out.old }
 {
     let passed = table::check_by(old, true);
-    let table::Answer::Passes = passed else {
-        return Answer::TableRefused(passed);
+    let Ok(()) = passed else {
+        return Err(Refusal::Table(passed.unwrap_err()));
     };
     if out.len() < old.len() {
-        return Answer::BufferTooShort;
+        return Err(Refusal::BufferTooShort);
     }
     copy(old, out);
     let c = counts_in(old);
     let p = places_of(c);
-    Answer::Converted(write_sets(old, p.hold, p.delayed, c.states as usize, out))
+    Ok(write_sets(old, p.hold, p.delayed, usize::from(c.states), out))
 }

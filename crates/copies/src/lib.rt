@@ -9,7 +9,7 @@ pub fn copy(from: &[u8], out: &mut [u8])
     requires { length from.now ≤ length out.old }
     ensures { out.new ≡ from.now ++ drop (length from.now) out.old }
 {
-    for k in 0..from.len() {
-        out[k] = from[k];
+    for (k, &byte) in from.iter().enumerate() {
+        out[k] = byte;
     }
 }

@@ -2,7 +2,7 @@
 use mathlib.Core.Path.{◌≡◌, refl, sym, ◌∙◌}
 use mathlib.Core.List.{List}
 use Prim.Native.Nat.{ℕ}
-use Rattle.table.specs.declared.Answer.TheVariants.{Passes}
+use Rattle.std.specs.Prelude.{Ok}
 use Rattle.table.specs.Check.{table_answer, table_in}
 use Rattle.table.proofs.WellFormed.{well_formed}
 use Rattle.reaction.specs.Reaction.{reaction_of, react_of}
@@ -16,7 +16,7 @@ pub answer_means : AnswerMeans
 answer_means t ok P A r = (means t ok P A r, only_answer t ok P A r)
 
 -- The entry gives what the table does.
-same_answer : (s : List ℕ) → table_answer s ≡ Passes → (table_in s).timers ≡ 0 → (P A : ℕ) → react_of s P A ≡ reaction_of (table_in s) P A
+same_answer : (s : List ℕ) → table_answer s ≡ Ok tt → (table_in s).timers ≡ 0 → (P A : ℕ) → react_of s P A ≡ reaction_of (table_in s) P A
 same_answer s e none P A = only_answer (table_in s) (well_formed s e) P A _ (entry.entry_means s e P A none _ refl)
 
 pub entry_means : EntryMeans

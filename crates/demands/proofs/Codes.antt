@@ -6,25 +6,18 @@ use Prim.Native.Nat.{ℕ, ◌*◌}
 use native.Mathlib.Omega.{arith}
 use borrow.Author.Tests.{eqb-false}
 use lib.ListN.{length, get_or}
-use Rattle.std.specs.Prelude.{if◌then◌else◌}
+use Rattle.std.specs.Prelude.{if◌then◌else◌, Ok, Err}
 use Rattle.wire.specs.Choice.{◌<?◌, ◌≤?◌, ◌=?◌}
 use Rattle.wire.specs.Reply.{Reply, gives, refuses, values_in}
 use Rattle.wire.proofs.Apart.{apart}
 use Rattle.table.specs.Check.{table_answer, table_in}
 use Rattle.journal.specs.Answer as journal
 use Rattle.journal.specs.Check.{check_of, check_short_of}
-use Rattle.reaction.specs.declared.Answer as reaction'
-use Rattle.reaction.specs.declared.Answer.TheVariants as reacts
 use Rattle.reaction.specs.Answer as reaction
 use Rattle.reaction.specs.Reaction.{react_of}
 use Rattle.moves.specs.Answer as moves
-use Rattle.moves.specs.declared.Answer.TheVariants as moved
 use Rattle.moves.specs.Moves.{judge_of, reaction_over, moves_of}
-use Rattle.tight.specs.declared.Answer as tight'
-use Rattle.tight.specs.declared.Answer.TheVariants as tight
-use Rattle.tight.specs.Answer as tight_answer
-use Rattle.tight.specs.declared.over_moves.Over as over'
-use Rattle.tight.specs.declared.over_moves.Over.TheVariants as over
+use Rattle.tight.specs.Answer as tight
 use Rattle.tight.specs.Tight.{react_tight_of}
 use Rattle.tight.specs.Several.{tight_moves_of}
 use Rattle.report.specs.Report.{most_journals}
@@ -41,12 +34,13 @@ use Rattle.krossvil.proofs.Converts.{convert_writer}
 use Rattle.krossvil.proofs.Stamps.{stamped_writer}
 use Rattle.krossvil.proofs.Restates.{shorten_writer, lengthen_writer}
 use Rattle.krossvil.proofs.Salvages.{salvage_writer}
-use Rattle.krossvil.proofs.Accepting.{Numbered, table_fine, journal_numbered}
+use Rattle.krossvil.proofs.Refusals.{Numbered, numbered}
+use Rattle.krossvil.proofs.Accepting.{table_fine, journal_numbered}
 use Rattle.krossvil.proofs.Reports.{report_numbered}
 use Rattle.krossvil.proofs.Lives.{live_writer, watch_says, watch_fits}
 use Rattle.demands.specs.Codes.{ReadsBack, EveryCodeReadsBack}
 use Rattle.live.specs.Live.{watch_of}
-use Rattle.demands.proofs.Entries.{judged_numbered, moves_numbered}
+use Rattle.demands.proofs.Entries.{moves_numbered}
 use Rattle.demands.proofs.Live.{watch_numbered}
 
 -- ---- One reply
@@ -74,29 +68,25 @@ writer_back w buffer room code e = let s = said w (length buffer) in told_back _
 
 -- ---- The calculators
 
-reaction_numbered : (a : reaction'.Answer) → Numbered (reaction.reply_of a)
-reaction_numbered (reacts.Reacts time target) = tt
-reaction_numbered (reacts.TableRefused refusal) = table_fine refusal
-reaction_numbered reacts.HasTimers = refl
-reaction_numbered reacts.UnknownState = refl
-reaction_numbered reacts.UnknownInput = refl
-reaction_numbered (reacts.LeavesStates at) = refl
+reaction_numbered : (a : reaction.ReactionAnswer) → Numbered (reaction.reply_of a)
+reaction_numbered (Ok r) = tt
+reaction_numbered (Err refusal) = numbered _ (reaction.reaction_ruled refusal)
 
-tight_numbered : (a : tight'.Answer) → Numbered (tight_answer.reply_of a)
-tight_numbered (tight.Reacts time target tight) = tt
-tight_numbered (tight.Refused refusal) = reaction_numbered refusal
+tight_numbered : (a : tight.TightAnswer) → Numbered (tight.reply_of a)
+tight_numbered (Ok r) = tt
+tight_numbered (Err refusal) = numbered _ (reaction.reaction_ruled refusal)
 
-over_numbered : (a : over'.Over) → Numbered (tight_answer.over_reply a)
-over_numbered (over.Reacts time target tight) = tt
-over_numbered (over.Refused refusal) = judged_numbered refusal
+over_numbered : (a : tight.Over) → Numbered (tight.over_reply a)
+over_numbered (Ok r) = tt
+over_numbered (Err refusal) = numbered _ (moves.moves_ruled refusal)
 
 moves_fits : (table : List ℕ) (P A n sums path : ℕ) → Fits (moves.reply_of (moves_of table P A n sums path))
 unfolding moves_of
-moves_fits table P A n sums path = go (moves.judged_passes? (judge_of table P A n sums path))
+moves_fits table P A n sums path = go (judge_of table P A n sums path) (judge_fits table P A n sums path)
   where
-    go : (b : Bool) → Fits (moves.reply_of (if b then moved.Reacts (reaction_over (table_in table) P A n) else moved.Refused (judge_of table P A n sums path)))
-    go true = record { number = omega arith; place = omega arith }
-    go false = judge_fits table P A n sums path
+    go : (j : moves.Judged) → Fits (moves.judged_reply j) → Fits (moves.reply_of (moves.judged_then j (reaction_over (table_in table) P A n)))
+    go (Ok passed) fits = record { number = omega arith; place = omega arith }
+    go (Err refusal) fits = fits
 
 -- ---- The report
 

@@ -3,12 +3,12 @@ use mathlib.Core.Path.{◌≡◌, refl, sym, ap, ◌∙◌}
 use mathlib.Core.List.{List, [], ◌∷◌, ◌++◌}
 use Prim.Native.Nat.{ℕ, ◌^◌}
 use borrow.Author.Tests.{lt-ltb}
+use Rattle.std.specs.Prelude.{Ok}
 use Rattle.wire.specs.Encode.{Bytes}
 use Rattle.sets.proofs.Members.{below_limit}
 use Rattle.table.specs.declared.Table.{Table}
 use Rattle.table.specs.Table.{WellFormed}
 use Rattle.table.specs.Encode.{table_bytes}
-use Rattle.table.specs.declared.Answer.TheVariants.{Passes}
 use Rattle.table.specs.Check.{table_answer, table_in}
 use Rattle.records.specs.declared.Record.{Record}
 use Rattle.records.specs.declared.Record.TheVariants.{End}
@@ -27,9 +27,8 @@ use Rattle.machine.proofs.RunsOver.{runs_over}
 use Rattle.machine.proofs.Left.{left_until_free, left_is_most}
 use Rattle.machine.proofs.Longest.{longest_is_cycle}
 use Rattle.journal.specs.declared.Numbers.{Numbers}
-use Rattle.journal.specs.declared.Answer.TheVariants.{Accepted}
 use Rattle.journal.specs.Check.{numbers_of, answer_of_run, check_under, check_of}
-use Rattle.reaction.specs.declared.Answer.TheVariants.{Reacts}
+use Rattle.reaction.specs.Answer.{Reacts}
 use Rattle.reaction.specs.Reaction.{next_set, reaction_time, reaction_of, react_of}
 use Rattle.reaction.proofs.Meaning.{only_answer}
 use Rattle.reaction.proofs.Entry.{reacted}
@@ -64,7 +63,7 @@ longest_of : (t : Table) (input : ℕ) (rs : List Record) (last : Machine) → R
 longest_of t input rs last runs longest is = rw is (longest_is_cycle t t.initial input rs last runs)
 
 -- What the bytes of an accepted journal hold.
-module _ (table journal : List ℕ) (bytes_of_table : Bytes table) (bytes : Bytes journal) (n : Numbers) (answer : check_of table journal ≡ Accepted n) where
+module _ (table journal : List ℕ) (bytes_of_table : Bytes table) (bytes : Bytes journal) (n : Numbers) (answer : check_of table journal ≡ Ok n) where
   found : (t : Table) × WellFormed t × (table ≡ table_bytes t) × AcceptedRun form.journal t journal n
   found = (checks_exactly table journal bytes_of_table bytes n).0 answer
 
@@ -107,7 +106,7 @@ module _ (table journal : List ℕ) (bytes_of_table : Bytes table) (bytes : Byte
 
 -- A run in bytes is accepted under its table, with its end.
 pub run_taken : {table journal : List ℕ} {T : ℕ} (r : HoldsRun table journal T) →
-    (n : Numbers) × (n.end ≡ T) × (check_under form.journal r.t journal ≡ Accepted n)
+    (n : Numbers) × (n.end ≡ T) × (check_under form.journal r.t journal ≡ Ok n)
 unfolding answer_of_run
 run_taken {table} {journal} {T} r =
     let h = r.holds in
@@ -149,7 +148,7 @@ module _ {table journal : List ℕ} {t : Table} {input : ℕ} {records : List Re
       let one = records_are_one form.journal (in_table form.journal t) t.inputs journal _ _ _ _ T _ h.journal_is run.written in
       rw (← one.0, ← one.1, a.end_is, ← h.records_are) at (of_run run)
 
-  pub read : (table_answer table ≡ Passes) × (table_in table ≡ t)
+  pub read : (table_answer table ≡ Ok tt) × (table_in table ≡ t)
   read = holds_that_table table t j.holds.well_formed j.holds.table_is
 
   pub run : RunOf t input records T

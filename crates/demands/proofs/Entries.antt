@@ -4,19 +4,16 @@ use mathlib.Core.List.{List, [], ◌∷◌, ◌++◌}
 use mathlib.Core.Bool.{Bool, true, false}
 use Prim.Native.Nat.{ℕ, ◌*◌}
 use lib.ListN.{length, drop}
-use Rattle.std.specs.Prelude.{if◌then◌else◌}
+use Rattle.std.specs.Prelude.{if◌then◌else◌, Ok, Err}
 use Rattle.wire.specs.Choice.{◌<?◌}
 use Rattle.wire.specs.Made as Made'
 use Rattle.wire.specs.Made.{Made, answer_in, buffer_in}
 use Rattle.wire.specs.Reply.{Reply, gives, refuses, number_in, values_in}
 use Rattle.table.specs.Encode.{words}
 use Rattle.wire.proofs.Made.{Owed}
-use Rattle.moves.specs.declared.Judged as judged'
-use Rattle.moves.specs.declared.Judged.TheVariants as judged
-use Rattle.moves.specs.declared.Answer as moves'
-use Rattle.moves.specs.declared.Answer.TheVariants as reacted
-use Rattle.moves.specs.Answer as moves_answer
-use Rattle.krossvil.proofs.Accepting.{Numbered, table_fine, buffer_kept}
+use Rattle.moves.specs.Answer as moves
+use Rattle.krossvil.proofs.Refusals.{Numbered, numbered}
+use Rattle.krossvil.proofs.Accepting.{buffer_kept}
 use Rattle.krossvil.proofs.Writers.{Writer, Tells, WriteOwed, said}
 use Rattle.krossvil.specs.Host.{told, code_of, answer_after, made_told}
 
@@ -48,7 +45,7 @@ pub made_kept : (w : Writer) (buffer : List ℕ) → (number_in (w.reply_of (ans
 unfolding answer_in buffer_in
 made_kept w buffer other = go w.makes w.tells other
   where
-    go : (m : Made w.Answers) → Tells w.reply_of w.Left w.k m → (number_in (w.reply_of (answer_in w.short m (length buffer))) ≡ 0 → ⊥) →
+    go : (m : Made w.Answers) → Tells w.reply_of w.k m → (number_in (w.reply_of (answer_in w.short m (length buffer))) ≡ 0 → ⊥) →
         buffer_in m buffer ≡ buffer
     go (Made'.refused a) t h = refl
     go (Made'.made a bytes) t h = by_room (length buffer <? length bytes) h
@@ -73,16 +70,6 @@ host_kept w buffer answer owed other =
 
 -- ---- Several moves
 
-pub judged_numbered : (j : judged'.Judged) → Numbered (moves_answer.refusal_of j)
-judged_numbered judged.Passes = tt
-judged_numbered (judged.TableRefused answer) = table_fine answer
-judged_numbered judged.HasTimers = refl
-judged_numbered judged.UnknownState = refl
-judged_numbered judged.UnknownInput = refl
-judged_numbered judged.TooManyMoves = refl
-judged_numbered (judged.LeavesStates at) = refl
-judged_numbered judged.NoRoom = refl
-
-pub moves_numbered : (a : moves'.Answer) → Numbered (moves_answer.reply_of a)
-moves_numbered (reacted.Reacts r) = tt
-moves_numbered (reacted.Refused j) = judged_numbered j
+pub moves_numbered : (a : moves.MovesAnswer) → Numbered (moves.reply_of a)
+moves_numbered (Ok r) = tt
+moves_numbered (Err refusal) = numbered _ (moves.moves_ruled refusal)

@@ -3,7 +3,11 @@ use mathlib.Core.Path.{◌≡◌, refl, sym, ap, ◌∙◌}
 use mathlib.Core.List.{List, [], ◌∷◌}
 use Prim.Native.Nat.{ℕ}
 use lib.ListN.{length}
+use Rattle.std.specs.Prelude.{Ok, Err}
+use Rattle.std.specs.Result.{OnErr}
 use Rattle.wire.specs.Reply.{number_in}
+use Rattle.report.specs.Answer as report_answer
+use Rattle.report.specs.Report.{Added}
 use Rattle.moves.specs.Answer as moves_answer
 use Rattle.moves.specs.Moves.{moves_of}
 use Rattle.moves.proofs.Kept.{refusal_keeps}
@@ -16,6 +20,7 @@ use Rattle.krossvil.proofs.Salvages.{salvage_writer}
 use Rattle.krossvil.proofs.Reports.{report_numbered}
 use Rattle.krossvil.specs.Host.{code_of, journal_told, short_told, reaction_told, moves_told, tight_told, tight_moves_told, report_told, live_told, watch_told}
 use Rattle.laws.proofs.Never28.{never_differs}
+use Rattle.demands.specs.Entries.{held_by}
 use Rattle.demands.specs.EveryEntry.{EveryEntryDetermines, EveryRefusalKeeps, RunNeverDiffers}
 use Rattle.live.specs.Answer as live_answer
 use Rattle.live.specs.Live.{watch_of}
@@ -44,6 +49,11 @@ two_lent : {A : Type 0} {r r' x : A} {l l' y k k' z : List ℕ} → (r ≡ x) ×
     (r ≡ r') × (◌≡◌ {A = List (List ℕ)} (l ∷ k ∷ []) (l' ∷ k' ∷ []))
 two_lent p q = (p.0 ∙ sym q.0, two (p.1.1 ∙ sym q.1.1) (p.1.0 ∙ sym q.1.0))
 
+-- A report to which nothing was added is as it was.
+report_kept : {P : Type 0} (r : report_answer.ReportAnswer) → OnErr r P → (number_in (report_answer.reply_of r) ≡ 0 → ⊥) → P
+report_kept (Ok taken) kept other = absurd (other refl)
+report_kept (Err refusal) kept other = kept
+
 pub every_entry_determines : EveryEntryDetermines
 every_entry_determines = (
   record { asks_nothing = λ κs a. tt; one_outcome = λ κs a r r' s s' p p'. (p ∙ sym p', refl) },
@@ -62,7 +72,10 @@ every_entry_determines = (
   record { asks_nothing = λ κs a. tt; one_outcome = λ κs a r r' s s' p p'. (p ∙ sym p', refl) },
   record { asks_nothing = λ κs a. tt; one_outcome = λ κs a r r' s s' p p'. one_lent p p' },
   record { asks_nothing = λ κs a. tt; one_outcome = λ κs a r r' s s' p p'. (p ∙ sym p', refl) },
-  record { asks_nothing = λ κs a. tt; one_outcome = λ κs a r r' s s' p p'. (p ∙ sym p', refl) },
+  record {
+    asks_nothing = λ κs a. tt;
+    one_outcome = λ κs a r r' s s' p p'. let same = p.0 ∙ sym p'.0 in (ap (λ (x : Added). x.answer) same, ap (λ (x : Added). held_by x.report) same);
+  },
   record { asks_nothing = λ κs a. tt; one_outcome = λ κs a r r' s s' p p'. (p ∙ sym p', refl) },
   record { asks_nothing = λ κs a. tt; one_outcome = λ κs a r r' s s' p p'. one_lent p p' },
   record { asks_nothing = λ κs a. tt; one_outcome = λ κs a r r' s s' p p'. two_lent p p' },
@@ -153,6 +166,7 @@ every_refusal_keeps = (
   λ κs a r s p other.
       let answer = a.1.1.1.1.0.now in
       told_kept (tight_moves_told a.0.now a.1.0 a.1.1.0 a.1.1.1.0 (length answer)) answer p other,
+  λ κs a r s p other. ap held_by (report_kept r p.1 other),
 )
 
 pub run_never_differs : RunNeverDiffers

@@ -6,7 +6,7 @@ use Prim.Native.Nat.{ℕ, ◌≤◌}
 use native.Mathlib.Omega.{arith}
 use borrow.Author.Tests.{le-ltb}
 use lib.ListN.{length, drop}
-use Rattle.std.specs.Prelude.{if◌then◌else◌}
+use Rattle.std.specs.Prelude.{if◌then◌else◌, Ok, Err}
 use Rattle.wire.specs.Choice.{◌<?◌}
 use Rattle.wire.specs.Encode.{Bytes}
 use Rattle.wire.specs.Made.{answer_in, buffer_in}
@@ -21,16 +21,17 @@ use Rattle.table.proofs.Answers.{decided}
 use Rattle.records.specs.declared.Record.TheVariants.{End}
 use Rattle.records.specs.Form.{longest_stimulus, journal, stimulus}
 use Rattle.records.specs.Encode.{written_in}
+use Rattle.records.specs.Refusal.{stopped}
 use Rattle.records.proofs.Places.{refusal_numbered}
 use Rattle.machine.specs.Machine.{start}
 use Rattle.machine.specs.Walk.{RunOverBytes, ran, too_long, refused, run_over}
 use Rattle.journal.specs.declared.Numbers.{Numbers}
-use Rattle.journal.specs.declared.Answer.TheVariants as answer
 use Rattle.journal.specs.Answer.{listed, reply_of}
 use Rattle.journal.specs.Check.{check_of}
-use Rattle.runtime.specs.declared.Answer.TheVariants as runtime
+use Rattle.writing.specs.declared.Refusal.TheVariants as why
+use Rattle.runtime.specs.declared.Refusal.TheVariants as runtime
 use Rattle.runtime.specs.Answer as run_answer
-use Rattle.runtime.specs.declared.Answer.{Answer}
+use Rattle.runtime.specs.Answer.{RuntimeAnswer}
 use Rattle.runtime.specs.Run as run
 use Rattle.runtime.specs.Run.{made_of_run, run_of}
 use Rattle.runs.proofs.Automaton.{machine_is_automaton}
@@ -48,8 +49,8 @@ use Rattle.demands.proofs.Demands.{run_taken, holds_accepted, accepted_is_run}
 -- ---- The journal check
 
 module _ (table s before : List ℕ) (bytes_of_table : Bytes table) (bytes : Bytes s) (enough : 28 ≤ length before) where
-  fits : (n : Numbers) → check_of table s ≡ answer.Accepted n → journal_told table s (length before) ≡ gives (listed n)
-  fits n is = ap (λ a. told (reply_of a) (length before)) is ∙ told_fits (reply_of (answer.Accepted n)) (length before) enough
+  fits : (n : Numbers) → check_of table s ≡ Ok n → journal_told table s (length before) ≡ gives (listed n)
+  fits n is = ap (λ a. told (reply_of a) (length before)) is ∙ told_fits (reply_of (Ok n)) (length before) enough
 
   pub judges_runs : JudgesRuns table s before (code_of (journal_told table s (length before))) (answer_after (journal_told table s (length before)) before)
   judges_runs = record {
@@ -74,29 +75,29 @@ module _ (table s before : List ℕ) (bytes_of_table : Bytes table) (bytes : Byt
 
 -- An answer that is told as 0 says that the journal is written.
 module _ (room answer : ℕ) where
-  abbrev code_for : Answer → ℕ
+  abbrev code_for : RuntimeAnswer → ℕ
   code_for a = code_of (told (run_answer.reply_of a) answer)
 
-  under_written : (r : RunOverBytes) → code_for (run.answer_of (made_of_run r) room) ≡ 0 → (size : ℕ) × (run.answer_of (made_of_run r) room ≡ runtime.Written size)
+  under_written : (r : RunOverBytes) → code_for (run.answer_of (made_of_run r) room) ≡ 0 → (size : ℕ) × (run.answer_of (made_of_run r) room ≡ Ok size)
   unfolding made_of_run answer_in
   under_written (ran input taken last) e = go (room <? length bytes) e
     where
       bytes : List ℕ
       bytes = written_in journal input taken
 
-      go : (b : Bool) → code_for (if b then runtime.BufferTooShort else runtime.Written (length bytes)) ≡ 0 →
-          (size : ℕ) × ((if b then runtime.BufferTooShort else runtime.Written (length bytes)) ≡ runtime.Written size)
+      go : (b : Bool) → code_for (if b then Err (runtime.Journal why.BufferTooShort) else Ok (length bytes)) ≡ 0 →
+          (size : ℕ) × ((if b then Err (runtime.Journal why.BufferTooShort) else Ok (length bytes)) ≡ Ok size)
       go true f = absurd (not_zero (refuses 30 0) refl answer f)
       go false f = (length bytes, refl)
   under_written too_long e = absurd (not_zero (refuses 19 0) refl answer e)
-  under_written (refused refusal place) e = absurd (not_zero (run_answer.reply_of (runtime.Refused refusal place)) (refusal_numbered refusal) answer e)
+  under_written (refused refusal place) e = absurd (not_zero (run_answer.reply_of (Err (runtime.Journal (why.Record (stopped refusal place))))) (refusal_numbered refusal) answer e)
 
-  zero_written : (table s : List ℕ) → code_for (run.answer_of (run_of table s) room) ≡ 0 → (size : ℕ) × (run.answer_of (run_of table s) room ≡ runtime.Written size)
+  zero_written : (table s : List ℕ) → code_for (run.answer_of (run_of table s) room) ≡ 0 → (size : ℕ) × (run.answer_of (run_of table s) room ≡ Ok size)
   unfolding run_of under_table answer_in
   zero_written table s e =
       decided (table_answer table)
       (λ pass. rw pass (under_written (run_over stimulus (table_in table) s) (rw pass at e)))
-      (λ r other. absurd (not_zero (table_answers.reply_of (table_answer table)) (table_numbered (table_answer table) r) answer (rw r at e)))
+      (λ refusal is. absurd (not_zero (table_answers.table_refusal refusal) (table_numbered refusal) answer (rw is at e)))
 
 -- A journal for the stimulus is an accepted one that has it, and back.
 accepted_for : {table s j : List ℕ} {T : ℕ} (r : RunFor table s j T) → AcceptedFor r.run.t s j
@@ -132,7 +133,7 @@ run_for {table} {s} {j} t ok is made a short =
     }
 
 module _ (table s buffer before : List ℕ) (bytes_of_table : Bytes table) (bytes : Bytes s) (enough : 4 ≤ length before) where
-  told_is : (size : ℕ) → run.answer_of (run_of table s) (length buffer) ≡ runtime.Written size → run_told table s buffer (length before) ≡ gives (size ∷ [])
+  told_is : (size : ℕ) → run.answer_of (run_of table s) (length buffer) ≡ Ok size → run_told table s buffer (length before) ≡ gives (size ∷ [])
   told_is size is = ap (λ a. told (run_answer.reply_of a) (length before)) is ∙ told_fits (gives (size ∷ [])) (length before) enough
 
   made_is : (j : List ℕ) (T : ℕ) → RunFor table s j T → run_of table s ≡ run.journal_made j
@@ -143,7 +144,7 @@ module _ (table s buffer before : List ℕ) (bytes_of_table : Bytes table) (byte
   unfolding buffer_in
   stands j made fits = rw (made, le-ltb (length buffer) (length j) fits) refl
 
-  performed : (size : ℕ) → run.answer_of (run_of table s) (length buffer) ≡ runtime.Written size → (t : Table) → WellFormed t → table ≡ table_bytes t →
+  performed : (size : ℕ) → run.answer_of (run_of table s) (length buffer) ≡ Ok size → (t : Table) → WellFormed t → table ≡ table_bytes t →
       Writable t s (length buffer) size →
       JournalTold table s buffer before (run_journal table s buffer (length before)) (answer_after (run_told table s buffer (length before)) before)
   performed size is t ok table_is w =

@@ -3,15 +3,15 @@ use mathlib.Core.Path.{◌≡◌, refl, sym, ap, ◌∙◌}
 use mathlib.Core.List.{List, [], ◌∷◌, ◌++◌, append-nil}
 use mathlib.Core.Bool.{Bool, true, false}
 use Prim.Native.Nat.{ℕ, zero, suc, ◌+◌, ◌*◌, ◌%◌, ◌^◌, ◌<◌, ◌≤◌}
-use native.Mathlib.Nat.{mod-eq_of_lt, mul-le-mul, not-suc-le-zero, le_of_suc-le-suc}
+use native.Mathlib.Nat.{mod-eq_of_lt, mul-le-mul}
 use native.Mathlib.Omega.{arith}
 use borrow.Author.Tests.{le-ltb, leb-false, ne_eqb}
 use lib.ListN.{length, get_or, take, length-append, length-replicate, replicate-append-replicate}
 use lib.Seq.{length-take-le, get_or-take, ext_get_or}
-use Rattle.std.specs.Prelude.{if◌then◌else◌}
+use Rattle.std.proofs.lemmas.List.{take-replicate}
+use Rattle.std.specs.Prelude.{if◌then◌else◌, Ok, Err}
 use Rattle.wire.specs.Choice.{◌≤?◌}
 use Rattle.wire.specs.Reply.{Reply, gives, refuses}
-use Rattle.table.specs.declared.Answer.TheVariants.{Passes}
 use Rattle.table.specs.declared.Table.{Table}
 use Rattle.table.specs.Check.{table_answer, table_in}
 use Rattle.table.specs.Entries.{values, zeros}
@@ -22,23 +22,23 @@ use Rattle.records.specs.declared.Record.{Record}
 use Rattle.records.specs.Form.{journal}
 use Rattle.records.proofs.Places.{refusal_numbered}
 use Rattle.machine.specs.Walk.{RunOverBytes, ran, too_long, refused, run_over}
-use Rattle.journal.specs.declared.Answer.TheVariants as checked
 use Rattle.journal.specs.Answer as check
 use Rattle.journal.specs.Check.{answer_of_run, check_under, check_in}
 use Rattle.tally.specs.declared.Tally.{Tally}
 use Rattle.tally.specs.Sums.{summed}
 use Rattle.tally.specs.Tally.{tally_of, tally_in}
-use Rattle.tally.proofs.Places.{Sized}
+use Rattle.tally.specs.Counting.{Sized}
 use Rattle.tally.proofs.Sums.{none_more}
-use Rattle.report.specs.declared.Answer.TheVariants.{Taken, Full}
-use Rattle.report.specs.declared.Added as added
+use Rattle.tally.proofs.More.{summed-length}
+use Rattle.report.specs.declared.Refusal.TheVariants.{Full}
 use Rattle.report.specs.declared.Report.{Report}
 use Rattle.report.specs.Answer.{reply_of}
-use Rattle.report.specs.Report.{most_journals, begin_of, table_kept, with_tally, as_it_was, not_taken, added_by, add_under, add_of}
+use Rattle.report.specs.Report as added
+use Rattle.report.specs.Report.{most_journals, begin_of, table_kept, with_tally, as_it_was, added_by, add_under, add_of}
 use Rattle.report.specs.Rows.{places_of, row_of}
 use Rattle.krossvil.specs.Host.{buffer_after, room_for, after_check, report_told}
 use Rattle.laws.specs.Reports.{added_all, NoneFull}
-use Rattle.laws.proofs.Reports.{length-summed, begun_with, kept_table, any_order, tells_all}
+use Rattle.laws.proofs.Reports.{begun_with, kept_table, any_order, tells_all}
 use Rattle.demands.specs.HostReports.{begun_in_c, added_in_c, told_in_c, numbers_kept, replies_of, SameReport, NeverFull, SumsInC, AnyOrderInC}
 
 -- ---- Sums of rows
@@ -61,11 +61,6 @@ summed-take (suc n) [] b = refl
 summed-take (suc n) (x ∷ a) [] = refl
 summed-take (suc n) (x ∷ a) (y ∷ b) = ap (λ l. (x + y) % 2 ^ 64 ∷ l) (summed-take n a b)
 
-take-zeros : (n m : ℕ) → n ≤ m → take n (zeros m) ≡ zeros n
-take-zeros zero m h = refl
-take-zeros (suc n) zero h = absurd (not-suc-le-zero h)
-take-zeros (suc n) (suc m) h = ap (λ l. 0 ∷ l) (take-zeros n m (le_of_suc-le-suc h))
-
 -- Numbers that stand for a function.
 take-values : (f : ℕ → ℕ) (n : ℕ) (l : List ℕ) → n ≤ length l → ((k : ℕ) → k < n → get_or l k 0 ≡ f k) → take n l ≡ values f n
 take-values f n l room each =
@@ -86,9 +81,9 @@ tally_sized t input rs T = record { dwell = length-values _ 32; pairs = length-v
 with_sized : (x : Report) (y : Tally) → Sized (arrays x) → Sized (arrays (with_tally x y))
 unfolding with_tally
 with_sized x y sized = record {
-  dwell = length-summed x.dwell y.dwell ∙ sized.dwell;
-  pairs = length-summed x.pairs y.pairs ∙ sized.pairs;
-  entries = length-summed x.entries y.entries ∙ sized.entries;
+  dwell = summed-length x.dwell y.dwell ∙ sized.dwell;
+  pairs = summed-length x.pairs y.pairs ∙ sized.pairs;
+  entries = summed-length x.entries y.entries ∙ sized.entries;
 }
 
 -- 35 is what is replied where the report is full.
@@ -97,7 +92,7 @@ unfolding replies_of NoneFull
 none_full [] x never = tt
 none_full (s ∷ ss) x never = ((λ e. never.0 (ap reply_of e)), none_full ss (add_of x s).report never.1)
 
-module _ (table : List ℕ) (passes : table_answer table ≡ Passes) where
+module _ (table : List ℕ) (passes : table_answer table ≡ Ok tt) where
   abbrev t : Table
   t = table_in table
 
@@ -181,7 +176,7 @@ module _ (table : List ℕ) (passes : table_answer table ≡ Passes) where
         y = tally_of t input taken last.time
 
         go : (b : Bool) → (most_journals ≤? x.journals) ≡ b →
-            Added (if b then refuses 35 0 else gives []) (ran input taken last) (if b then as_it_was x Full else record { answer = Taken; report = with_tally x y })
+            Added (if b then refuses 35 0 else gives []) (ran input taken last) (if b then as_it_was x (Err Full) else record { answer = Ok tt; report = with_tally x y })
         go true is = (refl, refl, kept)
         go false is =
             let more = leb-false most_journals x.journals is in
@@ -191,11 +186,11 @@ module _ (table : List ℕ) (passes : table_answer table ≡ Passes) where
 
     add_is : (s : List ℕ) → add_of x s ≡ added_by t x (run_over journal t s)
     unfolding add_of add_under
-    add_is s = rw kept.own (under_passes (λ a. not_taken x (checked.TableRefused a)) (λ u. added_by u x (run_over journal u s)) table passes)
+    add_is s = rw kept.own (under_passes _ _ table passes)
 
     one_added : (s : List ℕ) → Added (report_told table s row) (run_over journal t s) (add_of x s)
     unfolding report_told check_in
-    one_added s = rw (add_is s, under_passes checked.TableRefused (λ u. check_under journal u s) table passes) (by_run (run_over journal t s))
+    one_added s = rw (add_is s, under_passes _ (λ u. check_under journal u s) table passes) (by_run (run_over journal t s))
 
   -- ---- All of them
 
@@ -229,7 +224,7 @@ module _ (table : List ℕ) (passes : table_answer table ≡ Passes) where
       let Q = t.states in
       let R = t.states * t.inputs in
       let sum : suc (Q + (R + Q)) ≡ places_of t = omega arith in
-      rw (begun_with table passes, take-zeros Q 32 few_states, take-zeros R 1024 few_pairs, replicate-append-replicate {A = ℕ} R Q 0, replicate-append-replicate {A = ℕ} Q (R + Q) 0)
+      rw (begun_with table passes, take-replicate {X = ℕ} Q 32 0 few_states, take-replicate {X = ℕ} R 1024 0 few_pairs, replicate-append-replicate {A = ℕ} R Q 0, replicate-append-replicate {A = ℕ} Q (R + Q) 0)
       (ap zeros sum)
 
   from_zeros : (ss : List (List ℕ)) (behind : List ℕ) → Same begun behind ss

@@ -9,7 +9,7 @@ use Rattle.sets.specs.Sets.{member}
 use Rattle.table.specs.declared.Table.{Table}
 use Rattle.table.specs.Table.{WellFormed}
 use Rattle.machine.proofs.Watches.{no_regions}
-use Rattle.reaction.specs.declared.Answer.TheVariants.{Reacts}
+use Rattle.reaction.specs.Answer.{Reacts}
 use Rattle.reaction.specs.Reaction.{next_set, weight}
 use Rattle.reaction.specs.Meaning.{Slowest, Reaction}
 use Rattle.reaction.proofs.Meaning.{AllExist, target_has, target_only, same_target, means}

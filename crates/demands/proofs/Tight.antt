@@ -6,6 +6,7 @@ use Prim.Native.Nat.{ℕ, zero, suc, ◌+◌, ◌-◌, ◌<◌}
 use native.Mathlib.Omega.{arith}
 use borrow.Author.Tests.{ltb-true}
 use lib.Dec.{lit<}
+use Rattle.std.specs.Prelude.{Ok}
 use Rattle.wire.specs.Choice.{◌<?◌, ◌and◌}
 use Rattle.wire.specs.Encode.{Bytes, field}
 use Rattle.wire.specs.Field.{field_at}
@@ -18,7 +19,6 @@ use Rattle.table.specs.Answer.{◌or_else◌, ◌and_then◌}
 use Rattle.table.specs.Entries.{entries_from, values}
 use Rattle.table.specs.Encode.{words, timing, table_bytes}
 use Rattle.table.specs.Check.{expected_field, field_answer, row_answer, below, set_answer, counts_answer, bound_answer, holds_answer, tagged, timing_answer, entries_answer}
-use Rattle.table.specs.declared.Answer.TheVariants.{Passes}
 use Rattle.table.specs.Check.{answer_by, timers_in, table_with, table_answer, table_in}
 use Rattle.table.specs.Under.{under_table}
 use Rattle.table.proofs.WellFormed.{well_formed}
@@ -37,9 +37,8 @@ use Rattle.machine.proofs.RunsOver.{over_runs}
 use Rattle.journal.specs.Check.{numbers_of, answer_of_run}
 use Rattle.reaction.specs.Reaction.{next_set, weight_of, reaction_time, first_from, first_leaving, reaction_of, for_holds, react_of}
 use Rattle.runs.specs.Slots.{slot, input_at, state_at}
-use Rattle.tight.specs.declared.Answer.TheVariants.{Reacts}
+use Rattle.tight.specs.Answer.{ReactsTight}
 use Rattle.tight.specs.Tight.{need_of, tight_time, react_tight_of}
-use Rattle.tight.specs.declared.over_moves.Over.TheVariants as over
 use Rattle.tight.specs.Several.{tight_weight, tight_time_over, room_for_sums, room_for_path, times_over, tight_moves_of}
 use Rattle.moves.specs.Moves.{next_times, worst, round, sums_of, path_from, largest_sum, worst_start, worst_path, judge, judge_of, reaction_over}
 use Rattle.tight.proofs.Entry.{entry_gives}
@@ -140,7 +139,7 @@ least_of table P A target tight journal input records enough shown = record {
 }
 
 one_least : (table : List ℕ) (P A time target tight : ℕ) (journal : List ℕ) (input : ℕ) (records : List Record) →
-    react_tight_of table P A ≡ Reacts time target tight → TooShort table journal input records P A target (tight - 1) →
+    react_tight_of table P A ≡ ReactsTight time target tight → TooShort table journal input records P A target (tight - 1) →
     Least table P A time target tight journal input records
 one_least table P A time target tight journal input records answer shown = record {
   answer = answer;
@@ -148,7 +147,7 @@ one_least table P A time target tight journal input records answer shown = recor
 }
 
 over_least : (table : List ℕ) (P A n time target tight : ℕ) (journal : List ℕ) (input : ℕ) (records : List Record) →
-    tight_moves_of table P A n ≡ over.Reacts time target tight → TooShort table journal input records P A target (tight - 1) →
+    tight_moves_of table P A n ≡ ReactsTight time target tight → TooShort table journal input records P A target (tight - 1) →
     LeastOver table P A n time target tight journal input records
 over_least table P A n time target tight journal input records answer shown = record {
   answer = answer;
@@ -170,7 +169,7 @@ shows t ok journal P A target c s input records last bytes through later none ou
   outside = out;
 }
 
-passes_well : (t : Table) → table_answer (table_bytes t) ≡ Passes → table_in (table_bytes t) ≡ t → WellFormed t
+passes_well : (t : Table) → table_answer (table_bytes t) ≡ Ok tt → table_in (table_bytes t) ≡ t → WellFormed t
 passes_well t passes is = rw is at (well_formed (table_bytes t) passes)
 
 classroom_well_formed : WellFormed classroom_table

@@ -1,6 +1,6 @@
 -- Acceptance and demand 3, for any bytes of a table and of a journal; proofs/Demands proves each. What demand 3 says of their records stands in
 -- specs/Runs, where it is said of every run.
-use Rattle.std.specs.Prelude.{◌≡◌, List, [], ◌∷◌, ◌++◌, ◌↔◌, ℕ, ◌<◌, ◌≤◌, length}
+use Rattle.std.specs.Prelude.{◌≡◌, List, [], ◌∷◌, ◌++◌, ◌↔◌, ℕ, ◌<◌, ◌≤◌, length, Ok}
 use Rattle.wire.specs.Encode.{Bytes}
 use Rattle.table.specs.declared.Table.{Table}
 use Rattle.table.specs.Table.{WellFormed}
@@ -15,12 +15,10 @@ use Rattle.machine.specs.Left.{UntilFree}
 use Rattle.machine.specs.Most.{Has, MostOf}
 use Rattle.machine.specs.Longest.{LongestOf}
 use Rattle.journal.specs.declared.Numbers.{Numbers}
-use Rattle.journal.specs.declared.Answer.TheVariants.{Accepted}
 use Rattle.journal.specs.Check.{check_of}
-use Rattle.reaction.specs.declared.Answer.TheVariants.{Reacts}
+use Rattle.reaction.specs.Answer.{Reacts}
 use Rattle.reaction.specs.Reaction.{react_of}
 use Rattle.moves.specs.declared.Reaction.{Reaction}
-use Rattle.moves.specs.declared.Answer.TheVariants as moves
 use Rattle.moves.specs.Moves.{moves_of}
 use Rattle.runs.specs.Automaton.{RunOf}
 use Rattle.laws.specs.Journals.{JournalOf}
@@ -31,7 +29,7 @@ use Rattle.demands.specs.Runs.{KeepsHolds, KeepsTimer, InTime}
 -- The journal check accepts, and gives T as the end.
 pub record Accepts (table journal : List ℕ) (T : ℕ) : Type 0 where
   pub numbers : Numbers
-  pub answer : check_of table journal ≡ Accepted numbers
+  pub answer : check_of table journal ≡ Ok numbers
   pub end_is : numbers.end ≡ T
 
 -- What the bytes hold: a well-formed table; an opening input, then records in range, of which the last and no other is the end, at T.
@@ -67,7 +65,7 @@ pub record LeftTold (table journal : List ℕ) (n : Numbers) : Type 0 where
   pub until_free : (before : Machine) (time : ℕ) → Has (after t) is_test (left t) (start t.initial input) records before time → UntilFree t before time
 
 abbrev pub LeftIsMost : Type 0
-LeftIsMost = (table journal : List ℕ) → Bytes table → Bytes journal → (n : Numbers) → check_of table journal ≡ Accepted n → LeftTold table journal n
+LeftIsMost = (table journal : List ℕ) → Bytes table → Bytes journal → (n : Numbers) → check_of table journal ≡ Ok n → LeftTold table journal n
 
 -- The longest cycle: at most E; no completed cycle of the records is longer, some has that length if there was a tick, and else it is 0.
 pub record LongestTold (table journal : List ℕ) (n : Numbers) : Type 0 where
@@ -78,7 +76,7 @@ pub record LongestTold (table journal : List ℕ) (n : Numbers) : Type 0 where
   pub longest : LongestOf t records n.longest
 
 abbrev pub LongestIsCycle : Type 0
-LongestIsCycle = (table journal : List ℕ) → Bytes table → Bytes journal → (n : Numbers) → check_of table journal ≡ Accepted n → LongestTold table journal n
+LongestIsCycle = (table journal : List ℕ) → Bytes table → Bytes journal → (n : Numbers) → check_of table journal ≡ Ok n → LongestTold table journal n
 
 -- ---- Demand 3
 
@@ -110,4 +108,4 @@ NotTooLate =
 abbrev pub NotTooLateByMoves : Type 0
 NotTooLateByMoves =
     (table journal : List ℕ) (t : Table) (input : ℕ) (records : List Record) (T : ℕ) → AcceptedJournal table journal t input records T →
-    (P A n sums path : ℕ) (r : Reaction) → moves_of table P A n sums path ≡ moves.Reacts r → InTime t input records T P A r.time r.target
+    (P A n sums path : ℕ) (r : Reaction) → moves_of table P A n sums path ≡ Ok r → InTime t input records T P A r.time r.target

@@ -32,6 +32,7 @@ use Rattle.salvage.proofs.salvage.Kinds as salvage_kinds
 use Rattle.salvage.proofs.salvage.Reads as salvage
 use Rattle.report.proofs.begin.Kinds as begin_kinds
 use Rattle.report.proofs.begin.Reads as begin
+use Rattle.report.specs.declared.Report.{Report}
 use Rattle.report.proofs.Report.add.Kinds as add_kinds
 use Rattle.report.proofs.Report.add.Reads as add
 use Rattle.live.proofs.take_event.Kinds as live_kinds
@@ -139,8 +140,12 @@ salvager = entry 3 salvage_kinds.ps salvage_kinds.r salvage.Pre salvage.Post (λ
 abbrev pub report_begin : Contract
 report_begin = entry 1 begin_kinds.ps begin_kinds.r begin.Pre begin.Post (λ κs a. []) (λ κs s. [])
 
+-- All that a report holds: it is lent to be added to.
+abbrev pub held_by : Report → List (List ℕ)
+held_by x = (x.size ∷ x.journals ∷ []) ∷ x.table ∷ x.dwell ∷ x.pairs ∷ x.entries ∷ []
+
 abbrev pub report_add : Contract
-report_add = entry 1 add_kinds.ps add_kinds.r add.Pre add.Post (λ κs a. []) (λ κs s. [])
+report_add = entry 2 add_kinds.ps add_kinds.r add.Pre add.Post (λ κs a. held_by a.0.now) (λ κs s. held_by s.0.now)
 
 abbrev pub table_in_c : Contract
 table_in_c = entry 1 c_table_kinds.ps c_table_kinds.r c_table.Pre c_table.Post (λ κs a. []) (λ κs s. [])

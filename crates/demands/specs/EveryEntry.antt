@@ -1,15 +1,18 @@
 -- What holds of every entry's contract, as specs/Entries has them; proofs/EveryEntry proves each.
-use Rattle.std.specs.Prelude.{◌≡◌, ℕ}
+use Rattle.std.specs.Prelude.{◌≡◌, ℕ, Err}
 use contract.Lifetimes.{Lfts}
 use Rattle.wire.specs.Reply.{number_in}
 use Rattle.records.specs.declared.Refusal.TheVariants.{Differs}
-use Rattle.runtime.specs.declared.Answer.TheVariants.{Refused}
+use Rattle.records.specs.Refusal.{stopped}
+use Rattle.writing.specs.declared.Refusal.TheVariants as why
+use Rattle.runtime.specs.declared.Refusal.TheVariants.{Journal}
 use Rattle.runtime.specs.Answer.{reply_of}
 use Rattle.moves.specs.Answer as moves_answer
 use Rattle.convert.specs.Answer as convert_answer
 use Rattle.writing.specs.Answer as stamped_answer
 use Rattle.restate.specs.Answer as restate_answer
 use Rattle.salvage.specs.Answer as salvage_answer
+use Rattle.report.specs.Answer as report_answer
 use Rattle.live.specs.Answer as live_answer
 use Rattle.demands.specs.Entries.{Contract, table_check, journal_check, runtime_run, reaction_react, moves_react, converter, stamped_reader, short_check, shortener, lengthener, tight_react, salvager, report_begin, report_add}
 use Rattle.demands.specs.Entries.{live_takes, live_watches, live_looks, live_in_c, watch_in_c, tight_over, tight_over_in_c}
@@ -56,9 +59,10 @@ EveryRefusalKeeps =
     × RefusalKeeps live_takes (λ κs r. number_in (live_answer.reply_of r)) × RefusalKeeps live_watches (λ κs r. number_in (live_answer.watch_reply r))
     × RefusalKeeps live_in_c (λ κs r. r) × RefusalKeeps watch_in_c (λ κs r. r)
     × RefusalKeeps tight_over_in_c (λ κs r. r)
+    × RefusalKeeps report_add (λ κs r. number_in (report_answer.reply_of r))
 
 -- ---- The runtime never gives 28
 
 abbrev pub RunNeverDiffers : Type 0
 RunNeverDiffers = (κs : Lfts 3) (a : runtime_run.Args κs) (r : runtime_run.Result κs) (s : runtime_run.Exit κs) → runtime_run.Post κs a r s →
-    (place : ℕ) → r ≡ Refused Differs place → ⊥
+    (place : ℕ) → r ≡ Err (Journal (why.Record (stopped Differs place))) → ⊥

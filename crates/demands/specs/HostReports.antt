@@ -1,7 +1,6 @@
 -- The report that a host program in C keeps: zeros, to which journals are added one after another; proofs/HostReports proves each.
-use Rattle.std.specs.Prelude.{◌≡◌, List, [], ◌∷◌, ◌++◌, ℕ, ◌*◌, length, take}
+use Rattle.std.specs.Prelude.{◌≡◌, List, [], ◌∷◌, ◌++◌, ℕ, ◌*◌, length, take, Ok}
 use Rattle.wire.specs.Reply.{Reply, refuses}
-use Rattle.table.specs.declared.Answer.TheVariants.{Passes}
 use Rattle.table.specs.declared.Table.{Table}
 use Rattle.table.specs.Check.{table_answer, table_in}
 use Rattle.table.specs.Entries.{values, zeros}
@@ -41,7 +40,7 @@ replies_of x (s ∷ ss) = reply_of (add_of x s).answer ∷ replies_of (add_of x 
 -- Under a table that passes the host is told what is replied for the report with the same journals, and has the numbers of that report,
 -- whatever journals are turned down; what stands behind them is as it was.
 abbrev pub SameReport : Type 0
-SameReport = (table : List ℕ) → table_answer table ≡ Passes → (ss : List (List ℕ)) (behind : List ℕ) →
+SameReport = (table : List ℕ) → table_answer table ≡ Ok tt → (ss : List (List ℕ)) (behind : List ℕ) →
     (told_in_c table (begun_in_c table behind) ss ≡ replies_of (begin_of table).report ss)
     × (added_in_c table (begun_in_c table behind) ss ≡ numbers_kept (table_in table) (added_all (begin_of table).report ss) ++ behind)
 
@@ -54,7 +53,7 @@ NeverFull (reply ∷ replies) = (reply ≡ refuses 35 0 → ⊥) × NeverFull re
 
 -- No sum wraps: each number is the sum of those of the accepted journals.
 abbrev pub SumsInC : Type 0
-SumsInC = (table : List ℕ) → table_answer table ≡ Passes → (ss : List (List ℕ)) → AllBytes ss → (behind : List ℕ) →
+SumsInC = (table : List ℕ) → table_answer table ≡ Ok tt → (ss : List (List ℕ)) → AllBytes ss → (behind : List ℕ) →
     NeverFull (told_in_c table (begun_in_c table behind) ss) →
     let t = table_in table in
     let js = accepted table ss in
@@ -65,5 +64,5 @@ SumsInC = (table : List ℕ) → table_answer table ≡ Passes → (ss : List (L
 
 -- The order of adding makes no difference.
 abbrev pub AnyOrderInC : Type 0
-AnyOrderInC = (table : List ℕ) → table_answer table ≡ Passes → (ss ss' : List (List ℕ)) → Permuted ss ss' → (behind : List ℕ) →
+AnyOrderInC = (table : List ℕ) → table_answer table ≡ Ok tt → (ss ss' : List (List ℕ)) → Permuted ss ss' → (behind : List ℕ) →
     NeverFull (told_in_c table (begun_in_c table behind) ss) → added_in_c table (begun_in_c table behind) ss ≡ added_in_c table (begun_in_c table behind) ss'

@@ -5,7 +5,7 @@ use Rattle.sets.specs.Sets.{member}
 use Rattle.table.specs.declared.Table.{Table}
 use Rattle.table.specs.Table.{hold_of, delays, length_of, in_region, timer_delays, WellFormed}
 use Rattle.records.specs.declared.Record.{Record}
-use Rattle.reaction.specs.declared.Answer.TheVariants.{Reacts}
+use Rattle.reaction.specs.Answer.{Reacts}
 use Rattle.reaction.specs.Reaction.{reaction_of}
 use Rattle.moves.specs.Moves.{next_times, reaction_over}
 use Rattle.tight.specs.Tight.{tight_time}

@@ -8,8 +8,7 @@ use Rattle.table.specs.Encode.{table_bytes}
 use Rattle.records.specs.declared.Record.{Record}
 use Rattle.records.specs.declared.Record.TheVariants.{Change, Poll, Test, Tick, End}
 use Rattle.runs.specs.Slots.{state_at}
-use Rattle.tight.specs.declared.Answer.TheVariants.{Reacts}
-use Rattle.tight.specs.declared.over_moves.Over.TheVariants as over
+use Rattle.tight.specs.Answer.{ReactsTight}
 use Rattle.tight.specs.Tight.{react_tight_of}
 use Rattle.tight.specs.Several.{tight_moves_of}
 use Rattle.demands.specs.Runs.{StaysIn, InTime}
@@ -27,12 +26,12 @@ Enough table P A target c =
 -- The tight time that the entry gives is: the second half of demand 3.
 abbrev pub TightNotTooLate : Type 0
 TightNotTooLate =
-    (table : List ℕ) (P A time target tight : ℕ) → react_tight_of table P A ≡ Reacts time target tight → Enough table P A target tight
+    (table : List ℕ) (P A time target tight : ℕ) → react_tight_of table P A ≡ ReactsTight time target tight → Enough table P A target tight
 
 -- And so is the one over several moves.
 abbrev pub TightNotTooLateByMoves : Type 0
 TightNotTooLateByMoves =
-    (table : List ℕ) (P A n time target tight : ℕ) → tight_moves_of table P A n ≡ over.Reacts time target tight → Enough table P A target tight
+    (table : List ℕ) (P A n time target tight : ℕ) → tight_moves_of table P A n ≡ ReactsTight time target tight → Enough table P A target tight
 
 -- So is every longer one.
 abbrev pub LongerIsEnough : Type 0
@@ -59,12 +58,12 @@ pub record IsLeast (table : List ℕ) (P A target tight : ℕ) (journal : List �
 
 -- It is the tight time that the entry gives, for one move ..
 pub record Least (table : List ℕ) (P A time target tight : ℕ) (journal : List ℕ) (input : ℕ) (records : List Record) : Type 0 where
-  pub answer : react_tight_of table P A ≡ Reacts time target tight
+  pub answer : react_tight_of table P A ≡ ReactsTight time target tight
   pub is : IsLeast table P A target tight journal input records
 
 -- .. or for several.
 pub record LeastOver (table : List ℕ) (P A n time target tight : ℕ) (journal : List ℕ) (input : ℕ) (records : List Record) : Type 0 where
-  pub answer : tight_moves_of table P A n ≡ over.Reacts time target tight
+  pub answer : tight_moves_of table P A n ≡ ReactsTight time target tight
   pub is : IsLeast table P A target tight journal input records
 
 -- Input 0 is present from 1 on, after input 1 was polled. State 1 is entered at 3, and its hold of 5 is not passed at 4, at 7 and at 8;

@@ -3,15 +3,14 @@
 // the lines by `sheet`; here files are read and lines are written out.
 #![tactic(auto)]
 
-ghost use Rattle.std.specs.Prelude.{IfOk};
-ghost use Rattle.io.specs.Counts.{IsPrefixLen};
-
-use report::Report;
+use arrayvec::ArrayVec;
+use report::{Begun, Report};
 use std::env::FillError;
 use std::fs::File;
 use std::io;
 use std::io::{IsTerminal, Read, Write};
 use std::rt::{Env, Files};
+use wire::Refused;
 
 // So many files are read between two lines that say how far it is.
 const STRIDE: usize = 100;
@@ -35,14 +34,12 @@ fn without_number(text: &[u8]) -> &[u8] {
 
 // Says on standard error why the file could not be opened or read.
 fn tell_failed(rt: &HostRuntime, name: &[u8], error: &io::Error) {
-    let mut text = [0u8; 512];
-    let mut room = &mut text[..];
-    let _ = write!(room, "{error}");
-    let size = 512usize.saturating_sub(room.len());
+    let mut text = ArrayVec::<u8, 512>::new();
+    let _ = write!(text, "{error}");
     let mut out = rt.stderr();
     let _ = out.write_all(name);
     let _ = out.write_all(b": ");
-    let _ = out.write_all(without_number(&text[..size]));
+    let _ = out.write_all(without_number(&text));
     let _ = out.write_all(b"\n");
 }
 
@@ -54,47 +51,30 @@ fn open<R: Files>(rt: &R, name: &[u8]) -> io::Result<R::File> {
     }
 }
 
-// Reads on until the buffer is full or the input ends, and gives how many bytes it read.
-fn read_whole(file: &mut impl Read, buffer: &mut [u8]) -> io::Result<usize>
-    ensures { IfOk result (λ n. IsPrefixLen n buffer.new) }
-{
-    let mut size = 0;
-    while size < buffer.len() {
-        let n = file.read(&mut buffer[size..])?;
-        if n == 0 {
-            break;
-        }
-        size += n;
-    }
-    // Whatever comes after them is read too, so that a file which cannot be read there counts as empty.
-    file.read(&mut [0u8; 1])?;
-    Ok(size)
-}
-
-fn read_named(rt: &impl Files, name: &[u8], buffer: &mut [u8]) -> io::Result<usize>
-    ensures { IfOk result (λ n. IsPrefixLen n buffer.new) }
-{
+// The file's first bytes, as many as there is room for. One more is read, so that a file which cannot be read there counts as empty.
+// As in `checkjournal`, but for the name: no library that both stand on reads files, and one more for these lines is no plainer.
+fn read_first<const N: usize>(rt: &impl Files, name: &[u8]) -> io::Result<ArrayVec<u8, N>> {
     let mut file = open(rt, name)?;
-    read_whole(&mut file, buffer)
+    let mut bytes = ArrayVec::new();
+    io::copy(&mut Read::by_ref(&mut file).take(N as u64), &mut bytes)?;
+    file.read(&mut [0u8; 1])?;
+    Ok(bytes)
 }
 
-// Reads the file's first bytes, as many as the buffer holds, and gives their number. A file that can't be opened or read counts as empty,
-// and the reason is said on standard error.
-fn read_file(rt: &HostRuntime, name: &[u8], buffer: &mut [u8]) -> usize
-    ensures { IsPrefixLen result buffer.new }
-{
-    match read_named(rt, name, buffer) {
-        Ok(size) => size,
+// A file that can't be opened or read counts as empty, and the reason is said on standard error.
+fn read_file<const N: usize>(rt: &HostRuntime, name: &[u8]) -> ArrayVec<u8, N> {
+    match read_first(rt, name) {
+        Ok(bytes) => bytes,
         Err(error) => {
             tell_failed(rt, name, &error);
-            0
+            ArrayVec::new()
         }
     }
 }
 
-fn print_refused(rt: &HostRuntime, name: &[u8], number: u32, place: usize) {
+fn print_refused(rt: &HostRuntime, name: &[u8], refusal: impl Refused) {
     let mut text = [0u8; 65536];
-    let size = sheet::write_refused(name, number, place, &mut text);
+    let size = sheet::write_refused(name, refusal.number(), refusal.place(), &mut text);
     print(rt, &text[..size]);
 }
 
@@ -104,21 +84,16 @@ fn print_sheet(rt: &HostRuntime, report: Report) {
     print(rt, &text[..size]);
 }
 
-fn add_file(rt: &HostRuntime, report: Report, name: &[u8]) -> Report {
+fn add_file(rt: &HostRuntime, report: &mut Report, name: &[u8]) {
     // One byte more than a journal may have, so that a longer one is told from it.
-    let mut records = [0u8; 65537];
-    let size = read_file(rt, name, &mut records);
-    let added = report.add(&records[..size]);
-    let answer = added.answer;
-    let number = answer.number();
-    if number != 0 {
-        print_refused(rt, name, number, answer.place());
+    let records = read_file::<65537>(rt, name);
+    if let Err(refusal) = report.add(&records) {
+        print_refused(rt, name, refusal);
     }
-    added.report
 }
 
 // A name that is longer than any path is cut, and opens no file.
-fn add_argument(rt: &HostRuntime, report: Report, i: usize) -> Report {
+fn add_argument(rt: &HostRuntime, report: &mut Report, i: usize) {
     let mut path = [0u8; LONGEST_PATH];
     match rt.arg(i, &mut path) {
         Ok(size) => add_file(rt, report, &path[..size]),
@@ -138,26 +113,22 @@ fn tell_progress(rt: &HostRuntime, done: usize, all: usize) {
     }
 }
 
-fn add_all(rt: &HostRuntime, report: Report, all: usize) -> Report {
-    let mut sum = report;
+fn add_all(rt: &HostRuntime, report: &mut Report, all: usize) {
     for k in 0..all {
-        sum = add_argument(rt, sum, k + 1);
+        add_argument(rt, report, k + 1);
         tell_progress(rt, k + 1, all);
     }
-    sum
 }
 
 fn print_report(rt: &HostRuntime, all: usize) {
-    let mut table = [0u8; 65536];
-    let size = read_file(rt, b"table.bin", &mut table);
-    let begun = report::begin(&table[..size]);
-    let answer = begun.answer;
-    let number = answer.number();
-    if number != 0 {
-        print_refused(rt, b"table.bin", number, answer.place());
+    let table = read_file::<65536>(rt, b"table.bin");
+    let Begun { answer, mut report } = report::begin(&table);
+    if let Err(refusal) = answer {
+        print_refused(rt, b"table.bin", refusal);
         return;
     }
-    print_sheet(rt, add_all(rt, begun.report, all));
+    add_all(rt, &mut report, all);
+    print_sheet(rt, report);
 }
 
 // How many words stand after the program's name.

@@ -1,4 +1,3 @@
-pub mod OneMore
 pub mod Running
 pub mod Entry
 pub mod Accepted

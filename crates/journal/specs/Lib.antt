@@ -1,4 +1,4 @@
 pub mod Answer
 pub mod Check
-pub mod Progress
+pub mod Finished
 pub mod Accepted

@@ -1,3 +1,4 @@
+pub mod Refusals
 pub mod TablePlaces
 pub mod Places
 pub mod Outcomes

@@ -4,25 +4,15 @@ use mathlib.Core.List.{List, [], ◌∷◌, ◌++◌}
 use Prim.Native.Nat.{ℕ, suc, ◌+◌, ◌*◌, ◌^◌, ◌<◌, ◌≤◌}
 use native.Mathlib.Omega.{arith}
 use borrow.Author.Tests.{lt-ltb, le-ltb}
-use types.Run.{OneOf, miss}
-use denote.Enum.Declared.{tag_of}
 use lib.ListN.{length, get_or, take, drop, length-append, length-drop}
 use lib.Seq.{drop-append-add, length-take-le, take_all, take_at, take-suc, drop-drop}
 use Rattle.wire.specs.Encode.{bytes32, placed_in}
-use Rattle.wire.specs.Reply.{Reply, gives, number_in, place_in, values_in}
+use Rattle.wire.specs.Reply.{Reply, gives, Ruled, place_in, values_in}
 use Rattle.table.specs.Encode.{words}
 use Rattle.table.proofs.Words.{length-words, words-append}
-use Rattle.journal.specs.declared.Answer as journal'
-use Rattle.journal.specs.declared.Answer.TheVariants as checked
-use Rattle.journal.specs.Answer as journal
-use Rattle.journal.specs.contracts.Answer as JournalT
-use Rattle.reaction.specs.declared.Answer as reaction'
-use Rattle.reaction.specs.declared.Answer.TheVariants as reacted
-use Rattle.reaction.specs.Answer as reaction
-use Rattle.reaction.specs.contracts.Answer as ReactionT
 use Rattle.krossvil.specs.Host.{told, numbered, code_of, answer_after}
 use Rattle.krossvil.specs.Small.{Fits}
-use Rattle.krossvil.proofs.TablePlaces.{table_none}
+use Rattle.krossvil.proofs.Refusals.{none}
 
 -- The code, and the answer buffer after it.
 abbrev pub Owed : Reply → List ℕ → ℕ → List ℕ → Type 0
@@ -40,51 +30,25 @@ module _ (numbers before : List ℕ) (code : ℕ) where
   unfolding told
   long_enough h e after is = rw (e, is, le-ltb (length before) (4 * length numbers) h) (refl, refl)
 
--- What is owed for an answer is owed for the answer that the entry's contract gives.
-pub owed_same : {A : Type 0} (reply_of : A → Reply) (a right : A) (reply : Reply) → a ≡ right → reply ≡ reply_of a → (before after : List ℕ) (code : ℕ) →
-    Owed reply before code after → Owed (reply_of right) before code after
-owed_same reply_of a right reply is e before after code owed = rw (← is, ← e) owed
-
 -- ---- A refusal
 
--- No answer is too short for a reply that has no numbers.
-pub owed_none : (reply : Reply) → values_in reply ≡ [] → (n p : ℕ) → n ≡ number_in reply → p ≡ place_in reply → (before : List ℕ) (code : ℕ) → code ≡ numbered n p →
-    Owed reply before code before
+-- No answer is too short for a refusal, which has no numbers.
+pub owed_none : (reply : Reply) → values_in reply ≡ [] → (before : List ℕ) (code : ℕ) → code ≡ code_of reply → Owed reply before code before
 unfolding told words
-owed_none reply none n p en ep before code e =
+owed_none reply none before code e =
     let enough = le-ltb (length before) 0 (omega arith) in
-    rw (none, enough, none) (rw (e, en, ep) refl, refl)
+    rw (none, enough, none) (e, refl)
 
--- `a` is the entry's answer by its contract, with its number and its place.
-module _ {A : Type 0} (reply_of : A → Reply) (right a : A) (is : a ≡ right) (n p : ℕ) (en : n ≡ number_in (reply_of a)) (ep : p ≡ place_in (reply_of a)) where
-  pub fits : Fits (reply_of right) → (n ≤ 36) × (p < 2 ^ 32)
-  fits h = (rw (en, is) h.number, rw (ep, is) h.place)
+-- `right` is what the entry's contract gives, and `b` what the answer turned out to be.
+module _ {A : Type 0} (reply_of : A → Reply) (right : A) {a b : A} (is : a ≡ right) (same : a ≡ b) where
+  pub place_fits : Fits (reply_of right) → place_in (reply_of b) < 2 ^ 32
+  place_fits h = let e : right ≡ b = sym is ∙ same in (rw e at h).place
 
-  pub refused : values_in (reply_of a) ≡ [] → (before : List ℕ) (code : ℕ) → code ≡ numbered n p → Owed (reply_of right) before code before
-  refused none before code e = rw (← is) (owed_none (reply_of a) none n p en ep before code e)
+  pub owed : (before after : List ℕ) (code : ℕ) → Owed (reply_of b) before code after → Owed (reply_of right) before code after
+  owed before after code h = let e : right ≡ b = sym is ∙ same in rw e h
 
--- An answer under a name has the number and the place of what it is.
-module _ {A : Type 0} (reply_of : A → Reply) {a b : A} (is : a ≡ b) where
-  pub number_as : {n : ℕ} → n ≡ number_in (reply_of b) → n ≡ number_in (reply_of a)
-  number_as e = e ∙ ap (λ x. number_in (reply_of x)) (sym is)
-
-  pub place_as : {p : ℕ} → p ≡ place_in (reply_of b) → p ≡ place_in (reply_of a)
-  place_as e = e ∙ ap (λ x. place_in (reply_of x)) (sym is)
-
--- What a `let .. else` on a success leaves has no numbers.
-pub journal_none : (a : journal'.Answer) → OneOf (1 ∷ 2 ∷ 3 ∷ []) (tag_of JournalT.the_type a) → values_in (journal.reply_of a) ≡ []
-journal_none (checked.Accepted n) h = absurd (miss (1 ∷ 2 ∷ 3 ∷ []) 0 tt h)
-journal_none (checked.TableRefused answer) h = table_none answer
-journal_none checked.TooLong h = refl
-journal_none (checked.Refused refusal place) h = refl
-
-pub reaction_none : (a : reaction'.Answer) → OneOf (1 ∷ 2 ∷ 3 ∷ 4 ∷ 5 ∷ []) (tag_of ReactionT.the_type a) → values_in (reaction.reply_of a) ≡ []
-reaction_none (reacted.Reacts time target) h = absurd (miss (1 ∷ 2 ∷ 3 ∷ 4 ∷ 5 ∷ []) 0 tt h)
-reaction_none (reacted.TableRefused refusal) h = table_none refusal
-reaction_none reacted.HasTimers h = refl
-reaction_none reacted.UnknownState h = refl
-reaction_none reacted.UnknownInput h = refl
-reaction_none (reacted.LeavesStates at) h = refl
+  pub refused : Ruled (reply_of b) → (before : List ℕ) (code : ℕ) → code ≡ code_of (reply_of b) → Owed (reply_of right) before code before
+  refused ruled before code e = owed before before code (owed_none (reply_of b) (none (reply_of b) ruled) before code e)
 
 -- With room for its numbers a reply is told as it is.
 pub told_fits : (reply : Reply) (room : ℕ) → 4 * length (values_in reply) ≤ room → told reply room ≡ reply

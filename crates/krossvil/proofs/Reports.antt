@@ -2,70 +2,61 @@
 use mathlib.Core.Path.{◌≡◌, refl, sym, ap, ◌∙◌}
 use mathlib.Core.List.{List, []}
 use mathlib.Core.Bool.{Bool, true, false}
-use Prim.Native.Nat.{ℕ, ◌*◌, ◌<◌, ◌≤◌}
+use Prim.Native.Nat.{ℕ, ◌*◌, ◌^◌, ◌<◌, ◌≤◌}
 use native.Mathlib.Omega.{arith}
-use borrow.Author.Tests.{ltb-false, lt-ltb, le-ltb, le-leb, lt-leb, eq-eqb, ne_eqb}
+use borrow.Author.Tests.{ltb-false}
 use lib.ListN.{length, get_or}
-use Rattle.std.specs.Prelude.{if◌then◌else◌}
+use Rattle.std.specs.Prelude.{Ok, Err, if◌then◌else◌}
 use Rattle.wire.specs.Choice.{◌<?◌, ◌≤?◌, ◌=?◌}
-use Rattle.wire.specs.Reply.{Reply, gives, refuses, values_in}
+use Rattle.wire.specs.Reply.{Reply, gives, refuses, place_in, values_in}
+use Rattle.wire.proofs.Apart.{apart}
 use Rattle.table.specs.Check.{table_in}
 use Rattle.records.specs.Form.{journal}
-use Rattle.journal.specs.declared.Answer.{Answer}
-use Rattle.journal.specs.declared.Answer.TheVariants.{Accepted, TableRefused, TooLong, Refused}
-use Rattle.journal.specs.Answer.{reply_of}
+use Rattle.journal.specs.Answer.{JournalAnswer, reply_of}
+use Rattle.journal.specs.Answer as check
 use Rattle.journal.specs.Check.{check_of}
 use Rattle.journal.specs.Accepted.{AcceptedIn}
 use Rattle.journal.proofs.Accepted.{check_accepts}
 use Rattle.tally.specs.Sums.{summed}
 use Rattle.report.specs.Report.{most_journals}
 use Rattle.report.specs.Rows.{places_of}
-use Rattle.krossvil.specs.Host.{told, numbered, code_of, buffer_after, journal_told, room_for, after_check, report_told, report_row, report_after}
-use Rattle.krossvil.proofs.TablePlaces.{table_none}
+use Rattle.krossvil.specs.Host.{told, code_of, buffer_after, journal_told, room_for, after_check, report_told, report_row, report_after}
+use Rattle.krossvil.specs.declared.telling.Refusal.{Refusal}
+use Rattle.krossvil.specs.declared.telling.Refusal.TheVariants.{BufferTooShort, Full}
+use Rattle.krossvil.specs.Small.{krossvil_refusal}
+use Rattle.krossvil.proofs.Refusals.{Numbered, none}
 use Rattle.krossvil.proofs.Outcomes.{told_fits}
-use Rattle.krossvil.proofs.Accepting.{Numbered, journal_numbered, buffer_kept}
+use Rattle.krossvil.proofs.Accepting.{journal_numbered, buffer_kept}
 
--- ---- Its room, test by test
+-- ---- Its room
 
-module _ (places : ℕ) (report : List ℕ) (code : ℕ) where
-  pub no_number : length report ≡ 0 → code ≡ numbered 30 0 → code ≡ code_of (room_for places report)
-  unfolding room_for
-  no_number none e = rw (e, eq-eqb (length report) 0 none) refl
-
-  module _ (some : length report ≡ 0 → ⊥) where
-    pub full : most_journals ≤ get_or report 0 0 → code ≡ numbered 35 0 → code ≡ code_of (room_for places report)
-    unfolding room_for
-    full h e = rw (e, ne_eqb (length report) 0 some, le-leb most_journals (get_or report 0 0) h) refl
-
-    module _ (more : get_or report 0 0 < most_journals) (n : ℕ) (is : n ≡ places) where
-      pub too_few : length report < n → code ≡ numbered 30 0 → code ≡ code_of (room_for places report)
-      unfolding room_for
-      too_few h e =
-          rw (e, ne_eqb (length report) 0 some, lt-leb most_journals (get_or report 0 0) more, lt-ltb (length report) places (rw (← is) h)) refl
-
-      pub enough : n ≤ length report → code ≡ 0 → code ≡ code_of (room_for places report)
-      unfolding room_for
-      enough h e =
-          rw (e, ne_eqb (length report) 0 some, lt-leb most_journals (get_or report 0 0) more, le-ltb (length report) places (rw (← is) h)) refl
-
--- What 0 tells of it.
+-- What an entry knows of it that found no fault with it.
 pub record HasRoom (places : ℕ) (report : List ℕ) : Type 0 where
   pub is : room_for places report ≡ gives []
   pub room : places ≤ length report
 
-pub has_room : (places : ℕ) (report : List ℕ) (code : ℕ) → code ≡ code_of (room_for places report) → code ≡ 0 → HasRoom places report
+pub has_room : (places : ℕ) (report : List ℕ) → gives [] ≡ room_for places report → HasRoom places report
 unfolding room_for
-has_room places report code e zero =
-    let h = go (length report =? 0) (most_journals ≤? get_or report 0 0) (length report <? places) refl (sym e ∙ zero) in
+has_room places report e =
+    let h = go (length report =? 0) (most_journals ≤? get_or report 0 0) (length report <? places) refl (sym e) in
     record { is = h.0; room = h.1 }
   where
     go : (none most short : Bool) → (length report <? places) ≡ short →
-        code_of (if none then refuses 30 0 else if most then refuses 35 0 else if short then refuses 30 0 else gives []) ≡ 0 →
+        (if none then refuses 30 0 else if most then refuses 35 0 else if short then refuses 30 0 else gives []) ≡ gives [] →
         ((if none then refuses 30 0 else if most then refuses 35 0 else if short then refuses 30 0 else gives []) ≡ gives []) × (places ≤ length report)
-    go true most short h f = absurd (let z : ⊥ = omega arith in z)
-    go false true short h f = absurd (let z : ⊥ = omega arith in z)
-    go false false true h f = absurd (let z : ⊥ = omega arith in z)
+    go true most short h f = apart cc
+    go false true short h f = apart cc
+    go false false true h f = apart cc
     go false false false h f = (refl, ltb-false (length report) places h)
+
+-- What an entry turns down itself is no success, and its place is 0.
+nonzero : (refusal : Refusal) → code_of (krossvil_refusal refusal) ≡ 0 → ⊥
+nonzero BufferTooShort e = omega arith
+nonzero Full e = omega arith
+
+pub place_small : (refusal : Refusal) → place_in (krossvil_refusal refusal) < 2 ^ 32
+place_small BufferTooShort = omega arith
+place_small Full = omega arith
 
 -- ---- What is told
 
@@ -93,11 +84,9 @@ module _ (table s report : List ℕ) where
   unfolding report_told
   after_accepted ok = rw (check_accepts journal table s ok) refl
 
-check_few : (a : Answer) → 4 * length (values_in (reply_of a)) ≤ 28
-check_few (Accepted n) = omega arith
-check_few (TableRefused a) = rw (table_none a) (omega arith)
-check_few TooLong = omega arith
-check_few (Refused refusal place) = omega arith
+check_few : (a : JournalAnswer) → 4 * length (values_in (reply_of a)) ≤ 28
+check_few (Ok n) = omega arith
+check_few (Err why) = rw (none (check.journal_refusal why) (check.journal_ruled why)) (omega arith)
 
 -- ---- What is owed
 
@@ -120,8 +109,10 @@ module _ (table s report : List ℕ) (code : ℕ) where
       go (refuses number place) later fits f = f ∙ ap code_of fits
 
   module _ (ok : AcceptedIn journal table s) where
-    pub report_lacks : code ≡ code_of (room_for (places_of (table_in table)) report) → (code ≡ 0 → ⊥) → ReportOwed table s report code report
-    report_lacks e other = turned_down (e ∙ ap code_of (sym (after_accepted table s report ok))) other
+    pub report_lacks : (refusal : Refusal) → krossvil_refusal refusal ≡ room_for (places_of (table_in table)) report → code ≡ code_of (krossvil_refusal refusal) →
+        ReportOwed table s report code report
+    report_lacks refusal is e =
+        turned_down (e ∙ ap code_of (is ∙ sym (after_accepted table s report ok))) (λ zero. nonzero refusal (sym e ∙ zero))
 
     pub report_added : HasRoom (places_of (table_in table)) report → code ≡ 0 → (after : List ℕ) → after ≡ summed report (report_row table s) →
         ReportOwed table s report code after

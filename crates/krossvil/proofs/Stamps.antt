@@ -1,37 +1,30 @@
 -- The reader of stamped journals as an entry that writes.
 use mathlib.Core.Path.{◌≡◌, refl}
-use mathlib.Core.List.{List, [], ◌∷◌}
+use mathlib.Core.List.{List}
 use mathlib.Core.Bool.{Bool, true, false}
 use Prim.Native.Nat.{ℕ, suc, ◌≤◌}
 use native.Mathlib.Omega.{arith}
 use borrow.Author.Tests.{ltb-false}
-use types.Run.{OneOf, miss}
-use denote.Enum.Declared.{tag_of}
 use lib.ListN.{length}
-use Rattle.std.specs.Prelude.{if◌then◌else◌}
+use Rattle.std.specs.Prelude.{Ok, Err, if◌then◌else◌}
 use Rattle.wire.specs.Choice.{◌<?◌}
 use Rattle.wire.specs.Made as made
 use Rattle.wire.specs.Made.{Made}
 use Rattle.records.specs.declared.Record.{Record}
-use Rattle.records.specs.declared.Opening.{Opening}
-use Rattle.records.specs.declared.Opening.TheVariants as opening
 use Rattle.records.specs.Form.{stamped, longest_stamped}
-use Rattle.records.specs.Reading.{Items, item, done, broken, any_record, opening_of, items_of}
+use Rattle.records.specs.Reading.{Opening, Items, item, done, broken, any_record, opening_of, items_of}
 use Rattle.records.proofs.Places.{Within, items_within}
-use Rattle.writing.specs.declared.Answer.{Answer}
-use Rattle.writing.specs.declared.Answer.TheVariants.{TooLong, BufferTooShort}
-use Rattle.writing.specs.Answer.{reply_of}
+use Rattle.writing.specs.declared.Refusal.TheVariants.{TooLong, BufferTooShort}
+use Rattle.writing.specs.declared.Refusal.{Refusal}
+use Rattle.writing.specs.Answer.{WritingAnswer, writing_refusal, writing_ruled, reply_of}
 use Rattle.stamped.specs.Stamped.{Listed, listed, stopped, before, list_of, made_of_records, read_opened, read_of}
-use Rattle.writing.specs.contracts.Answer as AnswerT
 use Rattle.stamped.proofs.Lengths.{Short, read_short}
-use Rattle.krossvil.proofs.Places.{plain, of_record}
-use Rattle.krossvil.proofs.Writers.{Writer, writer, Tells, Small, one_number, one_small}
+use Rattle.krossvil.specs.Small.{sized}
+use Rattle.krossvil.proofs.Places.{of_record}
+use Rattle.krossvil.proofs.Writers.{Writer, SizeWriter, writer_of, Tells, Small, one_number, one_small}
 
-abbrev pub Left : Answer → Type 0
-Left a = OneOf (1 ∷ 2 ∷ 3 ∷ []) (tag_of AnswerT.the_type a)
-
-abbrev pub Says : Made Answer → Type 0
-Says m = Tells reply_of Left 1 m × Small reply_of m
+abbrev pub Says : Made WritingAnswer → Type 0
+Says m = Tells reply_of 1 m × Small reply_of m
 
 -- ---- Where the list stops
 
@@ -56,22 +49,37 @@ unfolding read_of read_opened made_of_records items_of
 says s = sized (longest_stamped <? length s) refl (read_short s)
   where
     of_list : (input : ℕ) (l : Listed) → StopsBy 1000000 l → Short (made_of_records input l) → Says (made_of_records input l)
-    of_list input (listed rs) h few = (one_number _ refl (miss (1 ∷ 2 ∷ 3 ∷ []) 0 tt), one_small _ (omega (arith, few)))
+    of_list input (listed rs) h few = (one_number _ refl, one_small _ (omega (arith, few)))
     of_list input (stopped refusal place) h few = (of_record refusal place h, tt)
 
     of_opening : length s ≤ longest_stamped → (o : Opening) → Short (read_opened s o) → Says (read_opened s o)
-    of_opening short (opening.Refused refusal) few = (of_record refusal 0 (omega arith), tt)
-    of_opening short (opening.Input input) few =
+    of_opening short (Err refusal) few = (of_record refusal 0 (omega arith), tt)
+    of_opening short (Ok input) few =
         let within = items_within stamped any_record s 1000000 (suc (length s)) 4 0 (omega arith) in
         of_list input (list_of (items_of stamped any_record s)) (list_by 1000000 (items_of stamped any_record s) within) few
 
-    sized : (b : Bool) → (longest_stamped <? length s) ≡ b → Short (if b then made.refused TooLong else read_opened s (opening_of stamped 256 s)) →
-        Says (if b then made.refused TooLong else read_opened s (opening_of stamped 256 s))
-    sized true h few = (plain 19 0 (omega arith) refl (omega arith), tt)
+    sized : (b : Bool) → (longest_stamped <? length s) ≡ b → Short (if b then made.refused (Err TooLong) else read_opened s (opening_of stamped 256 s)) →
+        Says (if b then made.refused (Err TooLong) else read_opened s (opening_of stamped 256 s))
+    sized true h few = (record { ruled = writing_ruled TooLong; place = omega arith }, tt)
     sized false h few = of_opening (ltb-false longest_stamped (length s) h) (opening_of stamped 256 s) few
 
-abbrev pub stamped_writer : (s : List ℕ) → Writer
-stamped_writer s = writer reply_of BufferTooShort refl Left 1 (read_of s) (says s).0
+-- The reply, by its size or its refusal.
+pub by_size : (a : WritingAnswer) → sized writing_refusal a ≡ reply_of a
+by_size (Ok size) = refl
+by_size (Err refusal) = refl
 
-pub stamped_small : (s : List ℕ) → Small reply_of (read_of s)
-stamped_small s = (says s).1
+abbrev pub stamped_sizes : (s : List ℕ) → SizeWriter
+stamped_sizes s = record {
+  R = Refusal;
+  refused = writing_refusal;
+  reply_of = reply_of;
+  same = by_size;
+  short = Err BufferTooShort;
+  thirty = refl;
+  makes = read_of s;
+  tells = (says s).0;
+  small = (says s).1;
+}
+
+abbrev pub stamped_writer : (s : List ℕ) → Writer
+stamped_writer s = writer_of (stamped_sizes s)

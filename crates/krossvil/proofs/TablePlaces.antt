@@ -1,21 +1,19 @@
 -- Refusal numbers are at most 36 and places are below 2^32, so that both fit into one number of 64 bits: the table's.
-use mathlib.Core.Path.{◌≡◌, refl, sym}
-use mathlib.Core.List.{List, []}
+use mathlib.Core.Path.{◌≡◌}
+use mathlib.Core.List.{List}
 use mathlib.Core.Bool.{Bool, true, false, not, ◌&&◌}
 use Prim.Native.Nat.{ℕ, zero, suc, ◌+◌, ◌*◌, ◌<◌, ◌≤◌}
 use native.Mathlib.Nat.{mul-le-mul}
 use native.Mathlib.Omega.{arith}
-use Rattle.std.specs.Prelude.{if◌then◌else◌}
+use Rattle.std.specs.Prelude.{Option, Some, None, Ok, Err, if◌then◌else◌}
 use Rattle.wire.specs.Choice.{◌=?◌}
 use Rattle.wire.specs.Field.{field_at}
-use Rattle.wire.specs.Reply.{Reply, gives, refuses, number_in, place_in, values_in}
+use Rattle.wire.specs.Reply.{number_in, place_in}
 use Rattle.wire.specs.declared.Field.{Field}
-use Rattle.wire.specs.declared.Field.TheVariants.{Whole, RunOut}
-use Rattle.wire.proofs.Choice.{never}
-use Rattle.table.specs.declared.Answer.{Answer}
-use Rattle.table.specs.declared.Answer.TheVariants as verdict
+use Rattle.table.specs.declared.Refusal.{Refusal}
+use Rattle.table.specs.declared.Refusal.TheVariants as verdict
 use Rattle.table.specs.declared.Counts.{Counts}
-use Rattle.table.specs.Answer.{reply_of, ◌or_else◌, ◌and_then◌}
+use Rattle.table.specs.Answer.{TableAnswer, table_refusal, table_ruled, reply_of, ◌or_else◌, ◌and_then◌}
 use Rattle.table.specs.Entries.{entries_from}
 use Rattle.table.specs.Check.{expected_field, field_answer, row_answer, below, set_answer, timer_answer, counts_answer, bound_answer, counts_in, hold_field}
 use Rattle.table.specs.Check.{holds_answer, timer_sets_answer, timers_answer, timed, claimed_timers, timing_answer, entries_answer, answer_by}
@@ -23,33 +21,26 @@ use Rattle.table.proofs.Answers.{decided}
 use Rattle.table.proofs.Rows.{number_known}
 use Rattle.table.proofs.Stands.{counts_stand}
 use Rattle.krossvil.specs.Small.{Fits}
-
--- The table's refusals have no numbers.
-refusal_none : (r : Reply) → (number_in r =? 0) ≡ false → values_in r ≡ []
-refusal_none (gives values) e = absurd (never (sym e))
-refusal_none (refuses number place) e = refl
-
-pub table_none : (a : Answer) → values_in (reply_of a) ≡ []
-table_none a = decided a (λ e. rw e) (λ r other. refusal_none (reply_of a) r)
+use Rattle.krossvil.proofs.Refusals.{Refuses}
 
 -- A table has fewer than 2,000 bytes up to its last entry.
-record By (a : Answer) : Type 0 where
+record By (a : TableAnswer) : Type 0 where
   number : number_in (reply_of a) < 20
   place : place_in (reply_of a) ≤ 2000
 
-passing : By verdict.Passes
+passing : By (Ok tt)
 passing = record { number = omega arith; place = omega arith }
 
-by_then : (a b : Answer) → By a → (a ≡ verdict.Passes → By b) → By (a and_then b)
+by_then : (a b : TableAnswer) → By a → (a ≡ Ok tt → By b) → By (a and_then b)
 unfolding ◌and_then◌
-by_then a b p q = decided a (λ e. rw e (q e)) (λ r other. rw r p)
+by_then a b p q = decided a (λ e. rw e (q e)) (λ refusal e. let h = rw e at p in rw e h)
 
-by_test : (test : Bool) (a : Answer) → By a → By (test or_else a)
+by_test : (test : Bool) (r : Refusal) → By (Err r) → By (test or_else r)
 unfolding ◌or_else◌
 by_test true a p = passing
 by_test false a p = p
 
-by_entries : (entry : ℕ → Answer) (n i : ℕ) → ((k : ℕ) → k < i + n → By (entry k)) → By (entries_from entry n i)
+by_entries : (entry : ℕ → TableAnswer) (n i : ℕ) → ((k : ℕ) → k < i + n → By (entry k)) → By (entries_from entry n i)
 unfolding entries_from
 by_entries entry zero i all = passing
 by_entries entry (suc n) i all = by_then (entry i) _ (all i (omega arith)) (λ p. by_entries entry n (i + 1) (λ k h. all k (omega arith)))
@@ -59,15 +50,15 @@ module _ (s : List ℕ) (at tag : ℕ) (low : at ≤ 2000) where
   unfolding field_answer expected_field
   by_field size = go (field_at s at)
     where
-      go : (f : Field) → By (expected_field f at tag size)
-      go RunOut = record { number = omega arith; place = low }
-      go (Whole found claimed) = by_test ((found =? tag) && (claimed =? size)) (verdict.WrongTagOrLength at) (record { number = omega arith; place = low })
+      go : (f : Option Field) → By (expected_field f at tag size)
+      go None = record { number = omega arith; place = low }
+      go (Some found) = by_test ((found.tag =? tag) && (found.size =? size)) (verdict.WrongTagOrLength at) (record { number = omega arith; place = low })
 
-  by_row : (size n : ℕ) (entry : ℕ → Answer) → ((k : ℕ) → k < n → By (entry k)) → By (row_answer s at tag size entry n)
+  by_row : (size n : ℕ) (entry : ℕ → TableAnswer) → ((k : ℕ) → k < n → By (entry k)) → By (row_answer s at tag size entry n)
   unfolding row_answer
   by_row size n entry all = by_then (field_answer s at tag size) _ (by_field size) (λ p. by_entries entry n 0 (λ k h. all k (omega arith)))
 
-by_below : (limit : ℕ) (entry : ℕ → ℕ) (called : ℕ → Answer) (k : ℕ) → By (called k) → By (below limit entry called k)
+by_below : (limit : ℕ) (entry : ℕ → ℕ) (called : ℕ → Refusal) (k : ℕ) → By (Err (called k)) → By (below limit entry called k)
 unfolding below
 by_below limit entry called k by = by_test _ (called k) by
 
@@ -136,3 +127,7 @@ pub table_fits : (old : Bool) (s : List ℕ) → Fits (reply_of (answer_by old s
 table_fits old s =
     let by = by_table old s in
     record { number = omega (arith, by.number); place = omega (arith, by.place) }
+
+-- A table that is turned down.
+pub table_refuses : (old : Bool) (s : List ℕ) (refusal : Refusal) → answer_by old s ≡ Err refusal → Refuses (table_refusal refusal)
+table_refuses old s refusal e = record { ruled = table_ruled refusal; place = (rw e at (table_fits old s)).place }

@@ -7,15 +7,14 @@ use native.Mathlib.Omega.{arith}
 use borrow.Author.Tests.{lt-ltb, le-ltb, ltb-true, ltb-false}
 use lib.ListN.{length, get_or, take, drop}
 use lib.Seq.{take-length, drop-length}
-use Rattle.std.specs.Prelude.{if◌then◌else◌}
+use Rattle.std.specs.Prelude.{Result, Ok, Err, if◌then◌else◌}
 use Rattle.wire.specs.Choice.{◌<?◌, ◌=?◌}
 use Rattle.wire.specs.Made.{Made, refused, made, answer_in, buffer_in}
-use Rattle.wire.specs.Reply.{Reply, gives, refuses, number_in, place_in, values_in}
+use Rattle.wire.specs.Reply.{Reply, gives, refuses, Ruled, number_in, place_in, values_in}
 use Rattle.wire.proofs.Made as made_proofs
-use Rattle.krossvil.specs.Host.{told, numbered, code_of, answer_after, buffer_after, made_told, made_buffer}
-use Rattle.krossvil.specs.Small.{Fits, room_beside}
-use Rattle.krossvil.proofs.Accepting.{Numbered}
-use Rattle.krossvil.proofs.Places.{Refuses, plain}
+use Rattle.krossvil.specs.Host.{told, code_of, answer_after, buffer_after, made_told, made_buffer}
+use Rattle.krossvil.specs.Small.{Fits, room_beside, sized, Tellable}
+use Rattle.krossvil.proofs.Refusals.{Numbered, Refuses, none, numbered, fits_of}
 use Rattle.krossvil.proofs.Outcomes.{Owed, owed_none, told_fits}
 
 -- ---- A buffer after a reply
@@ -44,30 +43,28 @@ told_short values room h false = rw (lt-ltb room (4 * length values) h) refl
 
 -- ---- An entry that writes
 
--- With bytes come k numbers, in an answer that is none of those that a `let .. else` leaves.
-pub record Gives {A : Type 0} (reply_of : A → Reply) (Left : A → Type 0) (k : ℕ) (a : A) : Type 0 where
+-- With bytes come k numbers.
+pub record Gives {A : Type 0} (reply_of : A → Reply) (k : ℕ) (a : A) : Type 0 where
   pub values : List ℕ
   pub count : length values ≡ k
   pub is : reply_of a ≡ gives values
-  pub kept : Left a → ⊥
 
-abbrev pub Tells : {A : Type 0} → (A → Reply) → (A → Type 0) → ℕ → Made A → Type 0
-Tells reply_of Left k (refused a) = Refuses (reply_of a)
-Tells reply_of Left k (made a bytes) = Gives reply_of Left k a
+abbrev pub Tells : {A : Type 0} → (A → Reply) → ℕ → Made A → Type 0
+Tells reply_of k (refused a) = Refuses (reply_of a)
+Tells reply_of k (made a bytes) = Gives reply_of k a
 
 pub record Writer : Type 1 where
   pub Answers : Type 0
   pub reply_of : Answers → Reply
   pub short : Answers
   pub thirty : reply_of short ≡ refuses 30 0
-  pub Left : Answers → Type 0
   pub k : ℕ
   pub makes : Made Answers
-  pub tells : Tells reply_of Left k makes
+  pub tells : Tells reply_of k makes
 
-abbrev pub writer : {A : Type 0} (reply_of : A → Reply) (short : A) → reply_of short ≡ refuses 30 0 → (Left : A → Type 0) (k : ℕ) (m : Made A) → Tells reply_of Left k m → Writer
-writer {A} reply_of short thirty Left k m tells =
-    record { Answers = A; reply_of = reply_of; short = short; thirty = thirty; Left = Left; k = k; makes = m; tells = tells }
+abbrev pub writer : {A : Type 0} (reply_of : A → Reply) (short : A) → reply_of short ≡ refuses 30 0 → (k : ℕ) (m : Made A) → Tells reply_of k m → Writer
+writer {A} reply_of short thirty k m tells =
+    record { Answers = A; reply_of = reply_of; short = short; thirty = thirty; k = k; makes = m; tells = tells }
 
 -- The numbers that come with bytes fit into 32 bits.
 abbrev pub Small : {A : Type 0} → (A → Reply) → Made A → Type 0
@@ -87,12 +84,12 @@ nothing_lent [] buffer = refl
 nothing_lent (x ∷ bytes) buffer = rw (lt-ltb 0 (length (x ∷ bytes)) (omega arith)) refl
 
 module _ (w : Writer) (buffer answer : List ℕ) where
-  told_30 : (a : w.Answers) → Gives w.reply_of w.Left w.k a → length answer < 4 * w.k → (full : Bool) →
+  told_30 : (a : w.Answers) → Gives w.reply_of w.k a → length answer < 4 * w.k → (full : Bool) →
       told (w.reply_of (if full then w.short else a)) (length answer) ≡ refuses 30 0
   told_30 a g low true = rw w.thirty (told_short g.values (length answer) (rw g.count low) true)
   told_30 a g low false = rw g.is (told_short g.values (length answer) (rw g.count low) false)
 
-  short_home : (m : Made w.Answers) → Tells w.reply_of w.Left w.k m → length answer < 4 * w.k → Home w m buffer answer 0
+  short_home : (m : Made w.Answers) → Tells w.reply_of w.k m → length answer < 4 * w.k → Home w m buffer answer 0
   unfolding answer_in buffer_in
   short_home (refused a) t low = (refl, no_change _ buffer buffer refl)
   short_home (made a bytes) t low =
@@ -102,7 +99,7 @@ module _ (w : Writer) (buffer answer : List ℕ) where
             ∙ ap (λ reply. buffer_after reply (buffer_in (made a bytes) buffer) buffer) (sym (thirty (length buffer <? length bytes))),
       )
 
-  long_home : (m : Made w.Answers) → Tells w.reply_of w.Left w.k m → 4 * w.k ≤ length answer →
+  long_home : (m : Made w.Answers) → Tells w.reply_of w.k m → 4 * w.k ≤ length answer →
       buffer_in m buffer ≡ made_buffer w.reply_of w.short m buffer (length answer)
   unfolding answer_in buffer_in
   long_home (refused a) t enough = no_change _ buffer buffer refl
@@ -142,49 +139,9 @@ module _ (w : Writer) where
   unfolding answer_in buffer_in
   turned_down_owed x is room code e buffer answer =
       let down : Refuses (w.reply_of x) = rw is at w.tells in
-      let first = told_fits (w.reply_of x) room (rw down.none (omega arith)) in
-      let owed = owed_none (w.reply_of x) down.none _ _ refl refl answer code (e ∙ ap code_of first) in
+      let empty = none (w.reply_of x) down.ruled in
+      let owed = owed_none (w.reply_of x) empty answer code (e ∙ ap code_of (told_fits (w.reply_of x) room (rw empty (omega arith)))) in
       rw is (owed.0, (owed.1, no_change _ buffer buffer refl))
-
-  -- The answer, with room for so many bytes.
-  module _ (room : ℕ) {a : w.Answers} (is : a ≡ answer_in w.short w.makes room) where
-    pub left_refuses : w.Left a → Refuses (w.reply_of a)
-    left_refuses left =
-        rw is (made_proofs.answer_either (λ x. w.Left x → Refuses (w.reply_of x)) w.short
-        (λ l. rw w.thirty (plain 30 0 (omega arith) refl (omega arith))) w.makes (go w.makes w.tells) room (rw is at left))
-      where
-        go : (m : Made w.Answers) → Tells w.reply_of w.Left w.k m → w.Left (made_proofs.answer_made m) → Refuses (w.reply_of (made_proofs.answer_made m))
-        go (refused x) t l = t
-        go (made x bytes) t l = absurd (t.kept l)
-
-    pub code_fits : w.Left a → {n p : ℕ} → n ≡ number_in (w.reply_of a) → p ≡ place_in (w.reply_of a) → (n ≤ 36) × (p < 2 ^ 32)
-    code_fits left en ep = let f = (left_refuses left).fits in (rw en f.number, rw ep f.place)
-
-    pub value_small : Small w.reply_of w.makes → {b : w.Answers} → a ≡ b → (i : ℕ) → get_or (values_in (w.reply_of b)) i 0 < 2 ^ 32
-    value_small small same i =
-        rw (← same, is) (made_proofs.answer_either (λ x. get_or (values_in (w.reply_of x)) i 0 < 2 ^ 32) w.short (rw w.thirty (omega arith)) w.makes
-        (go w.makes w.tells small) room)
-      where
-        go : (m : Made w.Answers) → Tells w.reply_of w.Left w.k m → Small w.reply_of m → get_or (values_in (w.reply_of (made_proofs.answer_made m))) i 0 < 2 ^ 32
-        go (refused x) t s = rw t.none (omega arith)
-        go (made x bytes) t s = s i
-
-  -- And where only the room beside the answer was lent, of the buffer that comes home.
-  module _ (buffer answer : List ℕ) {room : ℕ} (lent : room ≡ room_beside (length answer) (4 * w.k) (length buffer))
-      {a : w.Answers} {part : List ℕ} (did : made_proofs.Owed w.short w.makes a (take room buffer) part) where
-    write_owed : {code : ℕ} {after : List ℕ} → Owed (w.reply_of a) answer code after → WriteOwed buffer answer code after (part ++ drop room buffer)
-    write_owed owed =
-        let h = home w buffer answer room lent in
-        let same = ap (λ x. told (w.reply_of x) (length answer)) did.0 ∙ h.0 in
-        (owed.0 ∙ ap code_of same, (owed.1 ∙ ap (λ x. answer_after x answer) same, ap (λ x. x ++ drop room buffer) did.1 ∙ h.1))
-
-    pub refusal_owed : w.Left a → {n p : ℕ} → n ≡ number_in (w.reply_of a) → p ≡ place_in (w.reply_of a) → {code : ℕ} → code ≡ numbered n p →
-        WriteOwed buffer answer code answer (part ++ drop room buffer)
-    refusal_owed left en ep e = write_owed (owed_none (w.reply_of a) (left_refuses _ did.0 left).none _ _ en ep answer _ e)
-
-    pub success_owed : {b : w.Answers} → a ≡ b → {code : ℕ} {after : List ℕ} → Owed (w.reply_of b) answer code after →
-        WriteOwed buffer answer code after (part ++ drop room buffer)
-    success_owed same owed = write_owed (rw same owed)
 
   -- ---- Whatever the room
 
@@ -193,16 +150,71 @@ module _ (w : Writer) where
       made_proofs.answer_either (λ x. Fits (w.reply_of x) × Numbered (w.reply_of x)) w.short (rw w.thirty (record { number = omega arith; place = omega arith }, refl))
       w.makes (go w.makes w.tells) room
     where
-      go : (m : Made w.Answers) → Tells w.reply_of w.Left w.k m →
+      go : (m : Made w.Answers) → Tells w.reply_of w.k m →
           Fits (w.reply_of (made_proofs.answer_made m)) × Numbered (w.reply_of (made_proofs.answer_made m))
-      go (refused x) t = (t.fits, t.numbered)
+      go (refused x) t = (fits_of _ t, numbered _ t.ruled)
       go (made x bytes) t = rw t.is (record { number = omega arith; place = omega arith }, tt)
+
+  -- The answer, with room for so many bytes, and what it turns out to be.
+  module _ (room : ℕ) {a b : w.Answers} (is : a ≡ answer_in w.short w.makes room) (same : a ≡ b) where
+    pub place_small : place_in (w.reply_of b) < 2 ^ 32
+    place_small = let e = sym is ∙ same in (rw e at (said room)).0.place
+
+    pub value_small : Small w.reply_of w.makes → (i : ℕ) → get_or (values_in (w.reply_of b)) i 0 < 2 ^ 32
+    value_small small i =
+        rw (← same, is) (made_proofs.answer_either (λ x. get_or (values_in (w.reply_of x)) i 0 < 2 ^ 32) w.short (rw w.thirty (omega arith)) w.makes
+        (go w.makes w.tells small) room)
+      where
+        go : (m : Made w.Answers) → Tells w.reply_of w.k m → Small w.reply_of m → get_or (values_in (w.reply_of (made_proofs.answer_made m))) i 0 < 2 ^ 32
+        go (refused x) t s = rw (none (w.reply_of x) t.ruled) (omega arith)
+        go (made x bytes) t s = s i
+
+  -- And where only the room beside the answer was lent, of the buffer that comes home.
+  module _ (buffer answer : List ℕ) {room : ℕ} (lent : room ≡ room_beside (length answer) (4 * w.k) (length buffer))
+      {a b : w.Answers} {part : List ℕ} (did : made_proofs.Owed w.short w.makes a (take room buffer) part) (same : a ≡ b) where
+    pub success_owed : {code : ℕ} {after : List ℕ} → Owed (w.reply_of b) answer code after → WriteOwed buffer answer code after (part ++ drop room buffer)
+    success_owed owed =
+        let h = home w buffer answer room lent in
+        let told_same = ap (λ x. told (w.reply_of x) (length answer)) (sym same ∙ did.0) ∙ h.0 in
+        (owed.0 ∙ ap code_of told_same, (owed.1 ∙ ap (λ x. answer_after x answer) told_same, ap (λ x. x ++ drop room buffer) did.1 ∙ h.1))
+
+    pub refusal_owed : Ruled (w.reply_of b) → {code : ℕ} → code ≡ code_of (w.reply_of b) → WriteOwed buffer answer code answer (part ++ drop room buffer)
+    refusal_owed ruled e = success_owed (owed_none (w.reply_of b) (none (w.reply_of b) ruled) answer _ e)
 
 -- ---- An answer that has one number
 
-pub one_number : {A : Type 0} {reply_of : A → Reply} {Left : A → Type 0} {a : A} (value : ℕ) → reply_of a ≡ gives (value ∷ []) → (Left a → ⊥) → Gives reply_of Left 1 a
-one_number value is kept = record { values = value ∷ []; count = refl; is = is; kept = kept }
+pub one_number : {A : Type 0} {reply_of : A → Reply} {a : A} (value : ℕ) → reply_of a ≡ gives (value ∷ []) → Gives reply_of 1 a
+one_number value is = record { values = value ∷ []; count = refl; is = is }
 
 pub one_small : (value : ℕ) → value < 2 ^ 32 → (i : ℕ) → get_or (value ∷ []) i 0 < 2 ^ 32
 one_small value h zero = h
 one_small value h (suc i) = omega arith
+
+-- ---- An entry that tells how many bytes it made
+
+pub record SizeWriter : Type 1 where
+  pub R : Type 0
+  pub refused : R → Reply
+  pub reply_of : Result ℕ R → Reply
+  pub same : (a : Result ℕ R) → sized refused a ≡ reply_of a
+  pub short : Result ℕ R
+  pub thirty : reply_of short ≡ refuses 30 0
+  pub makes : Made (Result ℕ R)
+  pub tells : Tells reply_of 1 makes
+  pub small : Small reply_of makes
+
+abbrev pub writer_of : SizeWriter → Writer
+writer_of z = writer z.reply_of z.short z.thirty 1 z.makes z.tells
+
+module _ (z : SizeWriter) where
+  pub tellable : (room : ℕ) {a : Result ℕ z.R} → a ≡ answer_in z.short z.makes room → Tellable z.refused a
+  tellable room {a} is = go a refl
+    where
+      go : (b : Result ℕ z.R) → a ≡ b → Tellable z.refused b
+      go (Ok size) e = rw (← z.same (Ok size)) at (value_small (writer_of z) room is e z.small 0)
+      go (Err refusal) e = rw (← z.same (Err refusal)) at (place_small (writer_of z) room is e)
+
+  pub size_owed : (buffer answer : List ℕ) {room : ℕ} → room ≡ room_beside (length answer) 4 (length buffer) → {a : Result ℕ z.R} {part : List ℕ} →
+      made_proofs.Owed z.short z.makes a (take room buffer) part → {code : ℕ} {after : List ℕ} → Owed (sized z.refused a) answer code after →
+      WriteOwed (writer_of z) buffer answer code after (part ++ drop room buffer)
+  size_owed buffer answer lent {a} did owed = success_owed (writer_of z) buffer answer lent did refl (rw (z.same a) at owed)

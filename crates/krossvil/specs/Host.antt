@@ -1,5 +1,5 @@
 -- What a host program in C gets: docs/RULES.md, "In C".
-use Rattle.std.specs.Prelude.{List, [], ◌++◌, ℕ, ◌+◌, ◌*◌, ◌^◌, length, drop, get_or, if◌then◌else◌}
+use Rattle.std.specs.Prelude.{List, [], ◌++◌, ℕ, ◌+◌, ◌*◌, ◌^◌, length, drop, get_or, Err, if◌then◌else◌}
 use Rattle.wire.specs.Choice.{◌<?◌, ◌≤?◌, ◌=?◌}
 use Rattle.wire.specs.Made.{Made, answer_in, buffer_in}
 use Rattle.wire.specs.Reply.{Reply, gives, refuses, number_in, place_in, values_in}
@@ -9,26 +9,25 @@ use Rattle.records.specs.Form as form
 use Rattle.machine.specs.Walk.{run_over}
 use Rattle.journal.specs.Answer as journal
 use Rattle.journal.specs.Check.{check_of, check_short_of}
-use Rattle.runtime.specs.declared.Answer.TheVariants as ran
+use Rattle.runtime.specs.declared.Refusal.TheVariants as ran
 use Rattle.runtime.specs.Answer as runtime
 use Rattle.runtime.specs.Run.{run_of}
-use Rattle.salvage.specs.declared.Answer.TheVariants as salvaged
+use Rattle.salvage.specs.declared.Refusal.TheVariants as salvaged
 use Rattle.salvage.specs.Answer as salvage
 use Rattle.salvage.specs.Salvage.{salvage_of}
-use Rattle.convert.specs.declared.Answer.TheVariants as converted
+use Rattle.convert.specs.declared.Refusal.TheVariants as converted
 use Rattle.convert.specs.Answer as convert
 use Rattle.convert.specs.Convert.{made_of}
-use Rattle.writing.specs.declared.Answer.TheVariants as read
+use Rattle.writing.specs.declared.Refusal.TheVariants as read
 use Rattle.writing.specs.Answer as stamped
 use Rattle.stamped.specs.Stamped.{read_of}
-use Rattle.restate.specs.declared.Answer.TheVariants as restated
+use Rattle.restate.specs.declared.Refusal.TheVariants as restated
 use Rattle.restate.specs.Answer as restate
 use Rattle.restate.specs.Restate.{shorten_of, lengthen_of}
 use Rattle.tally.specs.Tally.{tally_in}
 use Rattle.tally.specs.Sums.{summed}
 use Rattle.report.specs.Report.{most_journals}
 use Rattle.report.specs.Rows.{places_of, row_of}
-use Rattle.live.specs.declared.Live.TheVariants as taken
 use Rattle.live.specs.declared.NotTaken.TheVariants.{NoRoom}
 use Rattle.live.specs.Answer as live
 use Rattle.live.specs.Live.{live_of, live_memory, watch_of, watch_memory}
@@ -77,10 +76,10 @@ short_told table records room = told (journal.reply_of (check_short_of table rec
 
 -- With a journal buffer and room for the answer.
 abbrev pub run_told : List ℕ → List ℕ → List ℕ → ℕ → Reply
-run_told table stimulus = made_told runtime.reply_of ran.BufferTooShort (run_of table stimulus)
+run_told table stimulus = made_told runtime.reply_of (Err (ran.Journal read.BufferTooShort)) (run_of table stimulus)
 
 abbrev pub run_journal : List ℕ → List ℕ → List ℕ → ℕ → List ℕ
-run_journal table stimulus = made_buffer runtime.reply_of ran.BufferTooShort (run_of table stimulus)
+run_journal table stimulus = made_buffer runtime.reply_of (Err (ran.Journal read.BufferTooShort)) (run_of table stimulus)
 
 abbrev pub reaction_told : List ℕ → ℕ → ℕ → ℕ → Reply
 reaction_told table P A room = told (reaction.reply_of (react_of table P A)) room
@@ -96,16 +95,16 @@ abbrev pub moves_path : List ℕ → (P A n sums : ℕ) → (path : List ℕ) �
 moves_path table P A n sums path room = buffer_after (moves_told table P A n sums (length path) room) (path_after table P A n sums path) path
 
 abbrev pub convert_told : List ℕ → List ℕ → ℕ → Reply
-convert_told table = made_told convert.reply_of converted.BufferTooShort (made_of table)
+convert_told table = made_told convert.reply_of (Err converted.BufferTooShort) (made_of table)
 
 abbrev pub stamped_told : List ℕ → List ℕ → ℕ → Reply
-stamped_told bytes = made_told stamped.reply_of read.BufferTooShort (read_of bytes)
+stamped_told bytes = made_told stamped.reply_of (Err read.BufferTooShort) (read_of bytes)
 
 abbrev pub shorten_told : List ℕ → List ℕ → List ℕ → ℕ → Reply
-shorten_told table bytes = made_told restate.reply_of restated.BufferTooShort (shorten_of table bytes)
+shorten_told table bytes = made_told restate.reply_of (Err restated.BufferTooShort) (shorten_of table bytes)
 
 abbrev pub lengthen_told : List ℕ → List ℕ → List ℕ → ℕ → Reply
-lengthen_told table bytes = made_told restate.reply_of restated.BufferTooShort (lengthen_of table bytes)
+lengthen_told table bytes = made_told restate.reply_of (Err restated.BufferTooShort) (lengthen_of table bytes)
 
 abbrev pub tight_told : List ℕ → ℕ → ℕ → ℕ → Reply
 tight_told table P A room = told (tight.reply_of (react_tight_of table P A)) room
@@ -114,7 +113,7 @@ abbrev pub tight_moves_told : List ℕ → ℕ → ℕ → ℕ → ℕ → Reply
 tight_moves_told table P A n room = told (tight.over_reply (tight_moves_of table P A n)) room
 
 abbrev pub salvage_told : List ℕ → List ℕ → List ℕ → ℕ → Reply
-salvage_told table records = made_told salvage.reply_of salvaged.BufferTooShort (salvage_of table records)
+salvage_told table records = made_told salvage.reply_of (Err salvaged.BufferTooShort) (salvage_of table records)
 
 -- ---- The report, which the host keeps. It has no answer buffer.
 
@@ -144,10 +143,10 @@ report_after table records report = buffer_after (report_told table records repo
 -- ---- Live runs, whose memory the host keeps
 
 abbrev pub live_told : (table memory event buffer : List ℕ) → ℕ → Reply
-live_told table memory event = made_told live.reply_of (taken.Not NoRoom) (live_of table memory event)
+live_told table memory event = made_told live.reply_of (Err NoRoom) (live_of table memory event)
 
 abbrev pub live_record : (table memory event buffer : List ℕ) → ℕ → List ℕ
-live_record table memory event = made_buffer live.reply_of (taken.Not NoRoom) (live_of table memory event)
+live_record table memory event = made_buffer live.reply_of (Err NoRoom) (live_of table memory event)
 
 -- The memory changes only if the host is told of a success, as every buffer does.
 abbrev pub live_keeps : (table memory event buffer : List ℕ) → ℕ → List ℕ

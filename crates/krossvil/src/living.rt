@@ -7,35 +7,10 @@ ghost use Rattle.krossvil.specs.Host.{told, code_of, answer_after, live_told, li
 ghost use Rattle.krossvil.specs.Small.{Refusing};
 
 use crate::checking::{ACCEPTED_ANSWER, in_order};
-use crate::telling::{code, room_beside};
-use wire::put_swapped32;
+use crate::telling::{Turned, code, room_beside, tell};
 
 // Bytes of answer that a live run needs: six numbers.
 const LIVE_ANSWER: usize = 24;
-
-// What is told of a live run, as `telling` does it, but with each number turned round: in a call as short as these it counts.
-fn put_swapped(numbers: &[u32], out: &mut [u8])
-    requires { 4 * length numbers.now ≤ length out.old }
-    ensures { out.new ≡ words numbers.now ++ drop (4 * length numbers.now) out.old }
-{
-    let mut k = 0;
-    while k < numbers.len() {
-        put_swapped32(out, 4 * k, numbers[k]);
-        k += 1;
-    }
-}
-
-fn tell_swapped(numbers: &[u32], answer: &mut [u8]) -> u64
-    requires { length numbers.now ≤ 8 }
-    ensures code { result ≡ code_of (told (Reply.gives numbers.now) (length answer.old)) }
-    ensures bytes { answer.new ≡ answer_after (told (Reply.gives numbers.now) (length answer.old)) answer.old }
-{
-    if answer.len() < 4 * numbers.len() {
-        return code(30, 0);
-    }
-    put_swapped(numbers, answer);
-    0
-}
 
 pub fn krossvil_live(
     table: &[u8],
@@ -51,33 +26,23 @@ pub fn krossvil_live(
 {
     let room = room_beside(answer.len(), LIVE_ANSWER, out.len());
     match live::take_event(table, memory, event, &mut out[..room]) {
-        live::Live::Taken {
-            size,
-            state,
-            output,
-            phase,
-            left,
-            deadline,
-        } => {
-            let bytes = size as u32;
-            let numbers = [bytes, state, output, phase, left, deadline];
-            tell_swapped(&numbers, answer)
+        Ok(t) => {
+            let bytes = t.size as u32;
+            let numbers = [bytes, t.state, t.output, t.phase, t.left, t.deadline];
+            tell::<Turned>(&numbers, answer)
         }
-        live::Live::Not(refusal) => code(refusal.number(), refusal.place()),
+        Err(refusal) => code(refusal),
     }
 }
 
-fn tell_watched(done: live::Watched, answer: &mut [u8]) -> u64
+fn tell_watched(done: Result<journal::Numbers, live::NotTaken>, answer: &mut [u8]) -> u64
     requires { Refusing done }
     ensures code { result ≡ code_of (told (live_answer.watch_reply done) (length answer.old)) }
     ensures bytes { answer.new ≡ answer_after (told (live_answer.watch_reply done) (length answer.old)) answer.old }
 {
     match done {
-        live::Watched::Taken(n) => {
-            let numbers = in_order(n);
-            tell_swapped(&numbers, answer)
-        }
-        live::Watched::Not(refusal) => code(refusal.number(), refusal.place()),
+        Ok(numbers) => tell::<Turned>(&in_order(numbers), answer),
+        Err(refusal) => code(refusal),
     }
 }
 

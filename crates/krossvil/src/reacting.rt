@@ -2,7 +2,7 @@
 ghost use Rattle.std.specs.Prelude.{◌≡◌, length};
 ghost use Rattle.krossvil.specs.Host.{code_of, answer_after, reaction_told, moves_told, moves_sums, moves_path, tight_told, tight_moves_told};
 
-use crate::telling::{code, tell};
+use crate::telling::{Refusal, Straight, code, tell};
 
 // Bytes of answer that krossvil_reaction_moves needs: it writes to sums and path besides.
 const MOVES_ANSWER: usize = 12;
@@ -11,12 +11,10 @@ pub fn krossvil_reaction(table: &[u8], states: u32, inputs: u32, answer: &mut [u
     ensures code { result ≡ code_of (reaction_told table.now states inputs (length answer.old)) }
     ensures bytes { answer.new ≡ answer_after (reaction_told table.now states inputs (length answer.old)) answer.old }
 {
-    let reacted = reaction::react(table, states, inputs);
-    let reaction::Answer::Reacts { time, target } = reacted else {
-        return code(reacted.number(), reacted.place());
-    };
-    let numbers = [time, target];
-    tell(&numbers, answer)
+    match reaction::react(table, states, inputs) {
+        Ok(r) => tell::<Straight>(&[r.time, r.target], answer),
+        Err(refusal) => code(refusal),
+    }
 }
 
 // What is turned down comes first, and then an answer buffer that is too short: only after that sums and path are written.
@@ -35,15 +33,14 @@ pub fn krossvil_reaction_moves(
     ensures path { path.new ≡ moves_path table.now states inputs moves (length sums.old) path.old (length answer.old) }
 {
     let judged = moves::judging::judge(table, states, inputs, moves, sums.len(), path.len());
-    let moves::Judged::Passes = judged else {
-        return code(judged.number(), judged.place());
-    };
-    if answer.len() < MOVES_ANSWER {
-        return code(30, 0);
+    if let Err(refusal) = judged {
+        return code(refusal);
     }
-    let reacted = moves::react_judged(table, states, inputs, moves, sums, path);
-    let numbers = [reacted.time, reacted.target, reacted.length as u32];
-    tell(&numbers, answer)
+    if answer.len() < MOVES_ANSWER {
+        return code(Refusal::BufferTooShort);
+    }
+    let r = moves::react_judged(table, states, inputs, moves, sums, path);
+    tell::<Straight>(&[r.time, r.target, r.length as u32], answer)
 }
 
 pub fn krossvil_reaction_tight(table: &[u8], states: u32, inputs: u32, answer: &mut [u8]) -> u64
@@ -51,15 +48,8 @@ pub fn krossvil_reaction_tight(table: &[u8], states: u32, inputs: u32, answer: &
     ensures bytes { answer.new ≡ answer_after (tight_told table.now states inputs (length answer.old)) answer.old }
 {
     match tight::react(table, states, inputs) {
-        tight::Answer::Reacts {
-            time,
-            target,
-            tight,
-        } => {
-            let numbers = [time, target, tight];
-            tell(&numbers, answer)
-        }
-        tight::Answer::Refused(refusal) => code(refusal.number(), refusal.place()),
+        Ok(r) => tell::<Straight>(&[r.time, r.target, r.tight], answer),
+        Err(refusal) => code(refusal),
     }
 }
 
@@ -74,14 +64,7 @@ pub fn krossvil_reaction_tight_moves(
     ensures bytes { answer.new ≡ answer_after (tight_moves_told table.now states inputs moves (length answer.old)) answer.old }
 {
     match tight::over_moves::react(table, states, inputs, moves) {
-        tight::over_moves::Over::Reacts {
-            time,
-            target,
-            tight,
-        } => {
-            let times = [time, target, tight];
-            tell(&times, answer)
-        }
-        tight::over_moves::Over::Refused(refusal) => code(refusal.number(), refusal.place()),
+        Ok(over) => tell::<Straight>(&[over.time, over.target, over.tight], answer),
+        Err(refusal) => code(refusal),
     }
 }

@@ -1,28 +1,30 @@
 // The report of many journals, whose numbers the host keeps.
-ghost use Rattle.std.specs.Prelude.{◌≡◌};
-ghost use Rattle.table.specs.declared.Answer.TheVariants.{Passes};
+ghost use Rattle.std.specs.Prelude.{◌≡◌, Ok};
 ghost use Rattle.table.specs.Check.{table_answer, table_in};
 ghost use Rattle.report.specs.Rows.{places_of};
 ghost use Rattle.krossvil.specs.Host.{code_of, room_for, report_told, report_after};
+ghost use Rattle.krossvil.specs.Small.{reply_of};
 
 use crate::checking::{ACCEPTED_ANSWER, krossvil_check_journal};
-use crate::telling::code;
+use crate::telling::{Refusal, code};
 
-// What is wrong with the host's numbers; 0 if nothing is.
-fn room_for(table: &[u8], report: &[u64]) -> u64
-    requires { table_answer table.now ≡ Passes }
-    ensures { result ≡ code_of (room_for (places_of (table_in table.now)) report.now) }
+// What is wrong with the host's numbers, if anything. That the table passed is a clause: a `Checked` would be unpacked at the next call,
+// which takes bytes.
+#[tactic(auto, unfolding(crate::specs::Host::room_for))]
+fn room_for(table: &[u8], report: &[u64]) -> Result<(), Refusal>
+    requires { table_answer table.now ≡ Ok tt }
+    ensures { reply_of result ≡ room_for (places_of (table_in table.now)) report.now }
 {
     if report.len() == 0 {
-        return code(30, 0);
+        return Err(Refusal::BufferTooShort);
     }
     if report::MOST_JOURNALS <= report[0] {
-        return code(35, 0);
+        return Err(Refusal::Full);
     }
-    if report.len() < report::rows::places(table) {
-        return code(30, 0);
+    if report.len() < report::host::places(table) {
+        return Err(Refusal::BufferTooShort);
     }
-    0
+    Ok(())
 }
 
 // The check goes first, by its own entry, as for the converters.
@@ -35,10 +37,11 @@ pub fn krossvil_report_add(table: &[u8], journal: &[u8], report: &mut [u64]) -> 
     if refusal != 0 {
         return refusal;
     }
-    let lacking = room_for(table, report);
-    if lacking != 0 {
-        return lacking;
+    match room_for(table, report) {
+        Ok(()) => {
+            report::host::add_row(table, journal, report);
+            0
+        }
+        Err(refusal) => code(refusal),
     }
-    report::rows::add_row(table, journal, report);
-    0
 }

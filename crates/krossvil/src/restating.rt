@@ -1,32 +1,27 @@
 // A journal in another form: read from stamps, shortened, lengthened.
-ghost use Rattle.std.specs.Prelude.{◌≡◌, length};
-ghost use Rattle.writing.specs.declared.Answer.TheVariants as stamped_variants;
+ghost use Rattle.std.specs.Prelude.{◌≡◌, length, Err};
+ghost use Rattle.writing.specs.declared.Refusal.TheVariants as stamped_variants;
 ghost use Rattle.writing.specs.Answer as stamped_answer;
 ghost use Rattle.stamped.specs.Stamped.{read_of};
-ghost use Rattle.restate.specs.declared.Answer.TheVariants.{BufferTooShort};
+ghost use Rattle.restate.specs.declared.Refusal.TheVariants.{BufferTooShort};
 ghost use Rattle.restate.specs.Answer.{reply_of};
 ghost use Rattle.restate.specs.Restate.{shorten_of, lengthen_of};
 ghost use Rattle.krossvil.specs.Host.{code_of, answer_after, made_buffer, stamped_told, shorten_told, lengthen_told};
 
 use crate::checking::{ACCEPTED_ANSWER, krossvil_check_journal, krossvil_check_short};
-use crate::telling::{ONE_NUMBER, code, room_beside, tell};
+use crate::telling::{ONE_NUMBER, room_beside, tell_size};
 
 pub fn krossvil_read_stamped(stamped: &[u8], journal: &mut [u8], answer: &mut [u8]) -> u64
     ensures code { result ≡ code_of (stamped_told stamped.now journal.old (length answer.old)) }
     ensures bytes { answer.new ≡ answer_after (stamped_told stamped.now journal.old (length answer.old)) answer.old }
-    ensures written { journal.new ≡ made_buffer stamped_answer.reply_of stamped_variants.BufferTooShort (read_of stamped.now) journal.old (length answer.old) }
+    ensures written { journal.new ≡ made_buffer stamped_answer.reply_of (Err stamped_variants.BufferTooShort) (read_of stamped.now) journal.old (length answer.old) }
 {
     let room = room_beside(answer.len(), ONE_NUMBER, journal.len());
-    let done = stamped::read(stamped, &mut journal[..room]);
-    let writing::Answer::Written(size) = done else {
-        return code(done.number(), done.place());
-    };
-    let bytes = size as u32;
-    let numbers = [bytes];
-    tell(&numbers, answer)
+    tell_size(stamped::read(stamped, &mut journal[..room]), answer)
 }
 
 // The check goes first, by its own entry: if it were called from here as well, it would not be inlined there, and its loop be slower.
+// The way back is a function beside it: a trait that chose the check and the converter would be longer than both.
 pub fn krossvil_shorten(
     table: &[u8],
     journal: &[u8],
@@ -35,7 +30,7 @@ pub fn krossvil_shorten(
 ) -> u64
     ensures code { result ≡ code_of (shorten_told table.now journal.now shortened.old (length answer.old)) }
     ensures bytes { answer.new ≡ answer_after (shorten_told table.now journal.now shortened.old (length answer.old)) answer.old }
-    ensures written { shortened.new ≡ made_buffer reply_of BufferTooShort (shorten_of table.now journal.now) shortened.old (length answer.old) }
+    ensures written { shortened.new ≡ made_buffer reply_of (Err BufferTooShort) (shorten_of table.now journal.now) shortened.old (length answer.old) }
 {
     let mut accepted = [0u8; ACCEPTED_ANSWER];
     let refusal = krossvil_check_journal(table, journal, &mut accepted);
@@ -43,13 +38,10 @@ pub fn krossvil_shorten(
         return refusal;
     }
     let room = room_beside(answer.len(), ONE_NUMBER, shortened.len());
-    let done = restate::shorten_accepted(table, journal, &mut shortened[..room]);
-    let restate::Answer::Written(size) = done else {
-        return code(done.number(), done.place());
-    };
-    let bytes = size as u32;
-    let numbers = [bytes];
-    tell(&numbers, answer)
+    tell_size(
+        restate::shorten_accepted(table, journal, &mut shortened[..room]),
+        answer,
+    )
 }
 
 pub fn krossvil_lengthen(
@@ -60,7 +52,7 @@ pub fn krossvil_lengthen(
 ) -> u64
     ensures code { result ≡ code_of (lengthen_told table.now shortened.now journal.old (length answer.old)) }
     ensures bytes { answer.new ≡ answer_after (lengthen_told table.now shortened.now journal.old (length answer.old)) answer.old }
-    ensures written { journal.new ≡ made_buffer reply_of BufferTooShort (lengthen_of table.now shortened.now) journal.old (length answer.old) }
+    ensures written { journal.new ≡ made_buffer reply_of (Err BufferTooShort) (lengthen_of table.now shortened.now) journal.old (length answer.old) }
 {
     let mut accepted = [0u8; ACCEPTED_ANSWER];
     let refusal = krossvil_check_short(table, shortened, &mut accepted);
@@ -68,11 +60,8 @@ pub fn krossvil_lengthen(
         return refusal;
     }
     let room = room_beside(answer.len(), ONE_NUMBER, journal.len());
-    let done = restate::lengthen_accepted(table, shortened, &mut journal[..room]);
-    let restate::Answer::Written(size) = done else {
-        return code(done.number(), done.place());
-    };
-    let bytes = size as u32;
-    let numbers = [bytes];
-    tell(&numbers, answer)
+    tell_size(
+        restate::lengthen_accepted(table, shortened, &mut journal[..room]),
+        answer,
+    )
 }

@@ -2,7 +2,7 @@
 ghost use Rattle.std.specs.Prelude.{◌≡◌, length};
 ghost use Rattle.krossvil.specs.Host.{code_of, answer_after, run_told, run_journal};
 
-use crate::telling::{ONE_NUMBER, code, room_beside, tell};
+use crate::telling::{ONE_NUMBER, room_beside, tell_size};
 
 pub fn krossvil_run(table: &[u8], stimulus: &[u8], journal: &mut [u8], answer: &mut [u8]) -> u64
     ensures code { result ≡ code_of (run_told table.now stimulus.now journal.old (length answer.old)) }
@@ -10,11 +10,5 @@ pub fn krossvil_run(table: &[u8], stimulus: &[u8], journal: &mut [u8], answer: &
     ensures written { journal.new ≡ run_journal table.now stimulus.now journal.old (length answer.old) }
 {
     let room = room_beside(answer.len(), ONE_NUMBER, journal.len());
-    let ran = runtime::run(table, stimulus, &mut journal[..room]);
-    let runtime::Answer::Written(size) = ran else {
-        return code(ran.number(), ran.place());
-    };
-    let bytes = size as u32;
-    let numbers = [bytes];
-    tell(&numbers, answer)
+    tell_size(runtime::run(table, stimulus, &mut journal[..room]), answer)
 }

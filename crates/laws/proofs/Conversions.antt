@@ -7,15 +7,14 @@ use native.Mathlib.Omega.{arith}
 use borrow.Author.Tests.{eq-eqb, eqb-true, le-ltb, ltb-false}
 use lib.ListN.{length, get_or, take, drop, length-append}
 use lib.Seq.{take_at, length-take-le}
-use Rattle.std.specs.Prelude.{if◌then◌else◌}
+use Rattle.std.specs.Prelude.{if◌then◌else◌, Ok, Err}
 use Rattle.wire.specs.Choice.{◌<?◌, ◌=?◌}
 use Rattle.wire.specs.Encode.{bytes32, field}
 use Rattle.wire.specs.Made.{made, answer_in, buffer_in}
 use Rattle.wire.proofs.Apart.{apart}
 use Rattle.wire.proofs.Choice.{never}
 use Rattle.sets.proofs.Members.{member_below, below_limit}
-use Rattle.table.specs.declared.Answer.{Answer}
-use Rattle.table.specs.declared.Answer.TheVariants.{Passes}
+use Rattle.table.specs.declared.Refusal.{Refusal}
 use Rattle.table.specs.declared.Table.{Table}
 use Rattle.table.specs.Entries.{values, filled_to, zeros}
 use Rattle.table.specs.Table.{hold_of, delayed_of, delays, region_of, holders, Uses, WellFormedBy, WellFormed}
@@ -28,7 +27,7 @@ use Rattle.table.proofs.Under.{under_passes}
 use Rattle.table.proofs.Values.{length-values, get_or-filled, filled_uses, total_none}
 use Rattle.table.proofs.WellFormed.{retimed, well_formed_by, well_formed}
 use Rattle.table.proofs.Words.{length-words}
-use Rattle.convert.specs.declared.Answer.TheVariants.{Converted, TableRefused, BufferTooShort}
+use Rattle.convert.specs.declared.Refusal.TheVariants as why
 use Rattle.convert.specs.Convert.{new_set, change, with_sets, emptied, by_state, new_bytes, changes, made_of}
 use Rattle.convert.proofs.Converting.{is_made, new_length}
 use Rattle.records.specs.Form as form
@@ -137,7 +136,7 @@ to04 t =
 abbrev field05 : Table → List ℕ
 field05 t = field 0x05 (words (take t.states t.hold))
 
-module _ (s : List ℕ) (passes : old_answer s ≡ Passes) where
+module _ (s : List ℕ) (passes : old_answer s ≡ Ok tt) where
   -- By the old rules it has holds.
   abbrev table : Table
   table = table_with (counts_in s) s 0
@@ -178,30 +177,30 @@ module _ (s : List ℕ) (passes : old_answer s ≡ Passes) where
       ∙ append_assoc (to04 table) (field05 table) (field 0x06 (words sets))
       ∙ ap (λ v. to04 table ++ (field05 table ++ field 0x06 (words v))) sets_same
 
-new_encodes : (s : List ℕ) (passes : old_answer s ≡ Passes) → s ≡ table_bytes (table_in s) → new_bytes (counts_in s) s ≡ table_bytes (emptied (table_in s))
+new_encodes : (s : List ℕ) (passes : old_answer s ≡ Ok tt) → s ≡ table_bytes (table_in s) → new_bytes (counts_in s) s ≡ table_bytes (emptied (table_in s))
 new_encodes s passes is = let same = is_table s passes in rw same (table_encodes s passes (rw same at is))
 
 -- ---- What the entry does with it
 
 -- A success comes only so.
-succeeded : (s buffer : List ℕ) (n : ℕ) → conversion_answer s buffer ≡ Converted n → (old_answer s ≡ Passes) × (length s ≤ length buffer)
+succeeded : (s buffer : List ℕ) (n : ℕ) → conversion_answer s buffer ≡ Ok n → (old_answer s ≡ Ok tt) × (length s ≤ length buffer)
 unfolding made_of answer_in
-succeeded s buffer n e = decided (old_answer s) (λ passes. (passes, roomy passes (rw passes at e))) (λ r other. let f : TableRefused (old_answer s) ≡ Converted n = rw r at e in apart cc)
+succeeded s buffer n e = decided (old_answer s) (λ passes. (passes, roomy passes (rw passes at e))) (λ refusal other. let f : Err (why.Table refusal) ≡ Ok n = rw other at e in apart cc)
   where
-    roomy : old_answer s ≡ Passes → answer_in BufferTooShort (made (Converted (changes (counts_in s) s)) (new_bytes (counts_in s) s)) (length buffer) ≡ Converted n →
+    roomy : old_answer s ≡ Ok tt → answer_in (Err why.BufferTooShort) (made (Ok (changes (counts_in s) s)) (new_bytes (counts_in s) s)) (length buffer) ≡ Ok n →
         length s ≤ length buffer
     roomy passes f = go (length buffer <? length (new_bytes (counts_in s) s)) refl f
       where
         go : (b : Bool) → (length buffer <? length (new_bytes (counts_in s) s)) ≡ b →
-            (if b then BufferTooShort else Converted (changes (counts_in s) s)) ≡ Converted n → length s ≤ length buffer
+            (if b then Err why.BufferTooShort else Ok (changes (counts_in s) s)) ≡ Ok n → length s ≤ length buffer
         go true is g = apart cc
         go false is g = omega (arith, ltb-false (length buffer) (length (new_bytes (counts_in s) s)) is, new_length s buffer passes)
 
-module _ (s buffer : List ℕ) (passes : old_answer s ≡ Passes) (room : length s ≤ length buffer) where
+module _ (s buffer : List ℕ) (passes : old_answer s ≡ Ok tt) (room : length s ≤ length buffer) where
   enough : (length buffer <? length (new_bytes (counts_in s) s)) ≡ false
   enough = le-ltb (length buffer) (length (new_bytes (counts_in s) s)) (rw (new_length s buffer passes) room)
 
-  answers : conversion_answer s buffer ≡ Converted (changes (counts_in s) s)
+  answers : conversion_answer s buffer ≡ Ok (changes (counts_in s) s)
   unfolding answer_in
   answers = rw (is_made s passes, enough) refl
 
@@ -216,7 +215,7 @@ unfolding emptied
 no_timers_emptied t = refl
 
 -- What an entry answers on bytes that pass, and hold this table.
-module _ (new : List ℕ) (t : Table) (passes : table_answer new ≡ Passes) (read : table_in new ≡ t) {A : Type 0} (refused : Answer → A) where
+module _ (new : List ℕ) (t : Table) (passes : table_answer new ≡ Ok tt) (read : table_in new ≡ t) {A : Type 0} (refused : Refusal → A) where
   under_read : (under : Table → A) → under_table refused under new ≡ under t
   under_read under = under_passes refused under new passes ∙ ap under read
 
@@ -233,7 +232,7 @@ converts_faithfully old buffer changed c =
     let s = new_table old buffer in
     let is = writes_new old buffer passes done.1 ∙ new_encodes old passes (passes_encodes true old c.bytes passes) in
     let new = encoding_passes false (emptied t) (emptied_well t ok) in
-    let now : table_answer s ≡ Passes = ap table_answer is ∙ new.0 in
+    let now : table_answer s ≡ Ok tt = ap table_answer is ∙ new.0 in
     let read : table_in s ≡ emptied t = ap table_in is ∙ new.1 in
     let few = ok.states.1 in
     let plain = ok.no_timers refl in
@@ -281,7 +280,7 @@ old_well : (t : Table) → WellFormed t → t.timers ≡ 0 → WellFormedBy true
 old_well t ok none = with_sets_lem t ok t.delayed ok.delayed (λ new. absurd (never (sym new))) (λ old. none) ok.delayed_uses
 
 module _ (s : List ℕ) (t : Table) (ok : WellFormed t) (plain : t.timers ≡ 0) (is : s ≡ table_bytes t) where
-  read_it : (old_answer s ≡ Passes) × (table_in s ≡ t)
+  read_it : (old_answer s ≡ Ok tt) × (table_in s ≡ t)
   read_it = rw is (encoding_passes true t (old_well t ok plain))
 
   no_changes : changes (counts_in s) s ≡ 0
@@ -294,13 +293,13 @@ module _ (s : List ℕ) (t : Table) (ok : WellFormed t) (plain : t.timers ≡ 0)
       sym (get_or-filled (word_entry s (delayed_field c)) c.states 32 few q h)
       ∙ ok'.not_idle refl q h (get_or-filled (word_entry s (hold_field c)) c.states 32 few q h ∙ none))).1)
 
-  comes_back : (buffer : List ℕ) → length s ≤ length buffer → (conversion_answer s buffer ≡ Converted 0) × (new_table s buffer ≡ s)
+  comes_back : (buffer : List ℕ) → length s ≤ length buffer → (conversion_answer s buffer ≡ Ok 0) × (new_table s buffer ≡ s)
   comes_back buffer room =
       let passes = read_it.0 in
       let same = read_it.1 in
       let encoded : s ≡ table_bytes (table_in s) = is ∙ ap table_bytes (sym same) in
       let emptied_is : emptied (table_in s) ≡ table_in s = rw same (emptied_same t ok plain) in (
-        answers s buffer passes room ∙ ap Converted no_changes,
+        answers s buffer passes room ∙ ap Ok no_changes,
         writes_new s buffer passes room ∙ new_encodes s passes encoded ∙ ap table_bytes emptied_is ∙ sym encoded,
       )
 

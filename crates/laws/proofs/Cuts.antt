@@ -7,21 +7,19 @@ use Prim.Native.Nat.{ℕ, zero, suc, ◌+◌, ◌≤◌}
 use native.Mathlib.Omega.{arith}
 use borrow.Author.Tests.{le-leb, leb-true}
 use lib.ListN.{length}
-use Rattle.std.specs.Prelude.{if◌then◌else◌}
+use Rattle.std.specs.Prelude.{if◌then◌else◌, Ok, Err}
 use Rattle.wire.specs.Choice.{◌<?◌, ◌≤?◌}
 use Rattle.wire.proofs.Choice.{never}
 use Rattle.table.specs.declared.Table.{Table}
 use Rattle.records.specs.declared.Record.{Record}
 use Rattle.records.specs.declared.Record.TheVariants.{Change, Poll, Test, Tick, End}
 use Rattle.records.specs.declared.Refusal.TheVariants.{Misplaced}
-use Rattle.records.specs.declared.Read.{Read}
-use Rattle.records.specs.declared.Read.TheVariants as read
+use Rattle.records.specs.Reading.{Read}
 use Rattle.records.specs.Record.{time_of, is_end, is_tick}
 use Rattle.records.specs.Form.{journal}
 use Rattle.records.specs.Reading.{record_at, size_of, Items, item, done, broken, nothing_after, item_of, items_from}
 use Rattle.machine.specs.declared.Machine.{Machine}
-use Rattle.machine.specs.declared.Step.{Step}
-use Rattle.machine.specs.declared.Step.TheVariants as step
+use Rattle.machine.specs.Step.{Step}
 use Rattle.machine.specs.Machine.{after, step}
 use Rattle.machine.proofs.Steps.{step_taken}
 use Rattle.salvage.specs.Salvage.{Cut, cut_at, last_cut, cut_after, cut_by, cut_over}
@@ -48,8 +46,8 @@ items_follow allows s (suc n) at before = go (record_at journal allows before s 
     next r false later = later (at + size_of journal r) (time_of r)
 
     go : (x : Read) → ((at' before' : ℕ) → Follows at' (items_from journal allows s n at' before')) → Follows at (item_of journal s at (items_from journal allows s n) x)
-    go (read.Refused refusal) later = tt
-    go (read.Found r) later = (refl, next r (is_end r) later)
+    go (Err refusal) later = tt
+    go (Ok r) later = (refl, next r (is_end r) later)
 
 -- A record leaves the cut, or is a tick and moves it to its own end.
 moved_by : (r : Record) (ends : ℕ) (cut : Cut) →
@@ -84,7 +82,7 @@ after_tick (Tick time state) ends cut e early = rw (le-leb ends last_cut early) 
 after_tick (End time) ends cut e early = never e
 
 module _ (t : Table) where
-  one_over : (m : Machine) (cut : Cut) (place : ℕ) (r : Record) (rest : Items) → step t m r ≡ step.Next (after t m r) →
+  one_over : (m : Machine) (cut : Cut) (place : ℕ) (r : Record) (rest : Items) → step t m r ≡ Ok (after t m r) →
       cut_over t m cut (item place r rest) ≡ cut_over t (after t m r) (cut_after r (place + size_of journal r) cut) rest
   unfolding cut_over
   one_over m cut place r rest steps = rw steps refl
@@ -99,8 +97,8 @@ module _ (t : Table) where
 
       go : (a : Step) → ((m' : Machine) → cut'.bytes ≤ at + size_of journal r → cut'.bytes ≤ (cut_over t m' cut' rest).bytes) →
           cut.bytes ≤ (cut_by a cut (λ m'. cut_over t m' cut' rest)).bytes
-      go (step.Refused refusal) later = omega arith
-      go (step.Next m') later =
+      go (Err refusal) later = omega arith
+      go (Ok m') later =
           let moved = after_grows r (place + size_of journal r) cut (omega arith) in
           omega (arith, moved.0, later m' (omega (arith, moved.1)))
   grows m cut at done low follows = omega arith
@@ -139,7 +137,7 @@ module _ (t : Table) where
       cut' : Cut
       cut' = cut_after r (place + size_of journal r) cut
 
-      onward : step t m r ≡ step.Next (after t m r) → (last : Cut) → Last (after t m r) cut' rest last → Last m cut (item place r rest) last
+      onward : step t m r ≡ Ok (after t m r) → (last : Cut) → Last (after t m r) cut' rest last → Last m cut (item place r rest) last
       onward steps last (inr (low, more)) = inr (low, (steps, inr more))
       onward steps last (inl same) = moved (moved_by r (place + size_of journal r) cut)
         where
@@ -150,9 +148,9 @@ module _ (t : Table) where
 
       go : (a : Step) → step t m r ≡ a → ((m' : Machine) → Last m' cut' rest (cut_over t m' cut' rest)) →
           Last m cut (item place r rest) (cut_by a cut (λ m'. cut_over t m' cut' rest))
-      go (step.Refused refusal) e later = inl refl
-      go (step.Next m') e later =
+      go (Err refusal) e later = inl refl
+      go (Ok m') e later =
           let same = (step_taken t m r m' e).1 in
-          rw same (onward (e ∙ ap step.Next same) (cut_over t (after t m r) cut' rest) (later (after t m r)))
+          rw same (onward (e ∙ ap Ok same) (cut_over t (after t m r) cut' rest) (later (after t m r)))
   last_tick m cut done = inl refl
   last_tick m cut (broken refusal place) = inl refl

@@ -6,7 +6,7 @@ use Prim.Native.Nat.{ℕ, zero, suc, ◌+◌, ◌-◌, ◌*◌, ◌≤◌, max}
 use native.Mathlib.Omega.{arith}
 use borrow.Author.Tests.{ltb-true, ltb-false, ne_eqb}
 use lib.ListN.{length}
-use Rattle.std.specs.Prelude.{if◌then◌else◌}
+use Rattle.std.specs.Prelude.{if◌then◌else◌, Ok, Err}
 use Rattle.wire.specs.Choice.{◌<?◌, ◌=?◌, ◌and◌}
 use Rattle.sets.specs.Sets.{member, some, largest}
 use Rattle.table.specs.declared.Table.{Table}
@@ -15,15 +15,13 @@ use Rattle.table.specs.Entries.{values}
 use Rattle.table.proofs.Values.{get_or-filled, filled_uses}
 use Rattle.records.specs.declared.Record.{Record}
 use Rattle.records.specs.declared.Record.TheVariants.{Change, Poll, Test, Tick, End}
-use Rattle.records.specs.declared.Opening.{Opening}
-use Rattle.records.specs.declared.Opening.TheVariants as opening
+use Rattle.records.specs.Reading.{Opening}
 use Rattle.records.specs.Form.{Form}
 use Rattle.records.specs.Record.{time_of, is_test}
 use Rattle.records.specs.Reading.{Items, item, done, broken, opening_of, items_of}
 use Rattle.machine.specs.declared.Machine.{Machine}
 use Rattle.machine.specs.Verdict.{rule_by, verdict_by, left_by}
-use Rattle.machine.specs.declared.Gate.{Gate}
-use Rattle.machine.specs.declared.Gate.TheVariants.{Open, Shut}
+use Rattle.machine.specs.Step.{Gate}
 use Rattle.machine.specs.Machine.{start, kind_of, rule, verdict, left, state_after, regions_after, agrees, after, gate, through, step}
 use Rattle.machine.proofs.Watches.{rule_by_state, left_by_state}
 use Rattle.machine.specs.Most as machine
@@ -114,8 +112,8 @@ module _ (t : Table) (few : t.states ≤ 32) (uses : Uses t.states 32 t.delayed)
   agrees_same m (End time) = refl
 
   through_same : (g : Gate) (m : Machine) (r : Record) → through g t' m r ≡ through g t m r
-  through_same (Shut refusal) m r = refl
-  through_same Open m r = rw (agrees_same m r, after_same m r) refl
+  through_same (Err refusal) m r = refl
+  through_same (Ok tt) m r = rw (agrees_same m r, after_same m r) refl
 
   step_same : (m : Machine) (r : Record) → step t' m r ≡ step t m r
   unfolding step emptied
@@ -151,8 +149,8 @@ module _ (t : Table) (few : t.states ≤ 32) (uses : Uses t.states 32 t.delayed)
     run_same s = ap (λ r. if F.most <? length s then too_long else r) (go (opening_of F t.inputs s))
       where
         go : (o : Opening) → run_opened F t' s o ≡ run_opened F t s o
-        go (opening.Refused refusal) = refl
-        go (opening.Input input) = records_same s input
+        go (Err refusal) = refl
+        go (Ok input) = records_same s input
 
   most_same : (rs : List Record) (m : Machine) → most_left t' m rs ≡ most_left t m rs
   unfolding machine.most

@@ -7,11 +7,12 @@ use native.Mathlib.Nat.{mul-le-mul, mod-lt, div-add-mod', div-lt_iff_lt-mul}
 use native.Mathlib.Omega.{arith}
 use borrow.Author.Tests.{lt-ltb}
 use lib.ListN.{get_or, take, drop}
+use Rattle.std.specs.Prelude.{Ok}
 use Rattle.wire.specs.Field.{byte_at}
 use Rattle.wire.specs.Encode.{Bytes, bytes32, field}
 use Rattle.wire.proofs.Laws.{WholeAt}
 use Rattle.wire.proofs.Bytes.{number_written, field_written, number_read, field_read}
-use Rattle.table.specs.declared.Answer.TheVariants.{Passes, CountOutOfRange, BoundOutOfRange}
+use Rattle.table.specs.declared.Refusal.TheVariants.{CountOutOfRange, BoundOutOfRange}
 use Rattle.table.specs.declared.Table.{Table}
 use Rattle.table.specs.Entries.{values}
 use Rattle.table.specs.Table.{largest_bound, WellFormedBy}
@@ -36,7 +37,7 @@ module _ (s : List ℕ) (bytes : Bytes s) where
   bound_read whole = rw (← number_read s bytes 10 whole.fits) (field_read s bytes 7 0x02 4 whole)
 
 -- By the old rules or by today's.
-pub passes_encodes : (old : Bool) (s : List ℕ) → Bytes s → answer_by old s ≡ Passes → s ≡ table_bytes (table_in s)
+pub passes_encodes : (old : Bool) (s : List ℕ) → Bytes s → answer_by old s ≡ Ok tt → s ≡ table_bytes (table_in s)
 unfolding table_with table_bytes
 passes_encodes old s bytes e =
     let c = counts_in s in
@@ -77,7 +78,7 @@ module _ (old : Bool) (t : Table) (ok : WellFormedBy old t) where
       rw (div-add-mod' k t.inputs) at (ok.next (k / t.inputs) (k % t.inputs) ((div-lt_iff_lt-mul some).1 h) (mod-lt k some))
 
 -- Of field i: fᵢ, it stands as written; pᵢ, the check lets it pass; kᵢ, its array is kept. The last two fields are Timing's.
-pub encoding_passes : (old : Bool) (t : Table) → WellFormedBy old t → (answer_by old (table_bytes t) ≡ Passes) × (table_in (table_bytes t) ≡ t)
+pub encoding_passes : (old : Bool) (t : Table) → WellFormedBy old t → (answer_by old (table_bytes t) ≡ Ok tt) × (table_in (table_bytes t) ≡ t)
 unfolding answer_by counts_answer bound_answer entries_answer table_with
 encoding_passes old t ok =
     let s = table_bytes t in
@@ -93,11 +94,11 @@ encoding_passes old t ok =
     let bound : bound_in s ≡ t.bound = number_written s _ 10 t.bound f₂.holds in
     let counts : counts_in_range (counts_in s) ≡ true = ap counts_in_range (counts_written t) ∙ counts_pass old t ok in
     let bounded : is_between 1 largest_bound (bound_in s) ≡ true = rw bound (between 1 largest_bound t.bound ok.bound) in
-    let p₁ : Passes ≡ counts_answer s = goes_on (field_passes s 0 0x01 4 f₁.whole) (sym (holds (CountOutOfRange 0) counts)) in
-    let p₂ : Passes ≡ bound_answer s = goes_on (field_passes s 7 0x02 4 f₂.whole) (sym (holds (BoundOutOfRange 7) bounded)) in
-    let p₃ : bytes_answer s (output_row c) ≡ Passes = row_passes f₃ _ _ ok.output in
-    let p₄ : bytes_answer s (next_row c) ≡ Passes = row_passes f₄ _ _ (next_below old t ok) in
-    let entries : Passes ≡ entries_answer old c s = goes_on p₃ (goes_on p₄ (sym rest.passes)) in
+    let p₁ : Ok tt ≡ counts_answer s = goes_on (field_passes s 0 0x01 4 f₁.whole) (sym (holds (CountOutOfRange 0) counts)) in
+    let p₂ : Ok tt ≡ bound_answer s = goes_on (field_passes s 7 0x02 4 f₂.whole) (sym (holds (BoundOutOfRange 7) bounded)) in
+    let p₃ : bytes_answer s (output_row c) ≡ Ok tt = row_passes f₃ _ _ ok.output in
+    let p₄ : bytes_answer s (next_row c) ≡ Ok tt = row_passes f₄ _ _ (next_below old t ok) in
+    let entries : Ok tt ≡ entries_answer old c s = goes_on p₃ (goes_on p₄ (sym rest.passes)) in
     let k₃ = row_kept f₃ 32 few ok.output_uses in
     let k₄ = row_kept f₄ 1024 many ok.next_uses in
     let kept : table_of c s ≡ t = rw (bound, rest.timers, k₃, k₄, rest.hold, rest.delayed, rest.timing, rest.sets) refl in (

@@ -8,6 +8,7 @@ use native.Mathlib.Omega.{arith}
 use borrow.Author.Tests.{le-leb}
 use lib.ListN.{length, take, drop, length-append}
 use lib.Seq.{length-take-le, take_at, take-add}
+use Rattle.std.specs.Prelude.{Ok}
 use Rattle.wire.specs.Encode.{Bytes, bytes32, field}
 use Rattle.table.specs.declared.Table.{Table}
 use Rattle.records.specs.declared.Record.{Record}
@@ -21,7 +22,6 @@ use Rattle.records.proofs.Written.{journal_recovers, opening_read, record_read, 
 use Rattle.records.proofs.Lengths.{bytes_length}
 use Rattle.records.proofs.Says.{keeps_all}
 use Rattle.machine.specs.declared.Machine.{Machine}
-use Rattle.machine.specs.declared.Step.TheVariants.{Next}
 use Rattle.machine.specs.Machine.{start, after, step}
 use Rattle.machine.specs.Run.{Runs}
 use Rattle.machine.specs.Walk.{in_table}
@@ -98,7 +98,7 @@ module _ (t : Table) (s : List ℕ) (input : ℕ) where
     unfolding encode bytes_of
     closed_is = rw front.bytes_are (sym (written_more input front.records (End time)))
 
-    pub front_closed : input < t.inputs → at + 7 ≤ longest_journal → time ≤ latest → step t m (End time) ≡ Next (after t m (End time)) →
+    pub front_closed : input < t.inputs → at + 7 ≤ longest_journal → time ≤ latest → step t m (End time) ≡ Ok (after t m (End time)) →
         RunsOver journal t (closed_at at time) input (front.records ++ End time ∷ []) (after t m (End time))
     front_closed opens short low ends = record {
       short = rw closed_length short;

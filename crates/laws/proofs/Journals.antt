@@ -5,10 +5,10 @@ use mathlib.Core.Bool.{true}
 use Prim.Native.Nat.{ℕ}
 use native.Mathlib.Omega.{arith}
 use borrow.Author.Tests.{eq-eqb}
+use Rattle.std.specs.Prelude.{Ok}
 use Rattle.wire.specs.Encode.{Bytes}
 use Rattle.wire.proofs.Apart.{apart}
 use Rattle.table.specs.declared.Table.{Table}
-use Rattle.table.specs.declared.Answer.TheVariants.{Passes}
 use Rattle.table.specs.Table.{output_of, WellFormed}
 use Rattle.table.specs.Encode.{table_bytes}
 use Rattle.table.specs.Check.{table_answer}
@@ -26,7 +26,6 @@ use Rattle.machine.specs.Most.{most}
 use Rattle.machine.specs.Walk.{RunOverBytes, ran, too_long, refused, run_over}
 use Rattle.machine.proofs.Counts.{ticks_more}
 use Rattle.journal.specs.declared.Numbers.{Numbers}
-use Rattle.journal.specs.declared.Answer.TheVariants.{Accepted, TableRefused}
 use Rattle.journal.specs.Check.{check_in, numbers_of, answer_of_run, check_under, check_of}
 use Rattle.machine.specs.RunsOver.{RunsOver}
 use Rattle.laws.specs.Journals.{AcceptedRun, AcceptsExactly, ChecksExactly}
@@ -57,7 +56,7 @@ module _ (F : Form) (valued : F.valued ≡ true) (t : Table) (s : List ℕ) (n :
   abbrev AsRun : Type 0
   AsRun = AcceptedRun F t s n
 
-  pub run_accepted : AsRun → check_under F t s ≡ Accepted n
+  pub run_accepted : AsRun → check_under F t s ≡ Ok n
   unfolding answer_of_run
   run_accepted a =
       let end = n.end in
@@ -79,11 +78,10 @@ module _ (F : Form) (valued : F.valued ≡ true) (t : Table) (s : List ℕ) (n :
       )
 
   through : (input : ℕ) (taken : List Record) (last : Machine) → RunsOver F t s input taken last →
-      Accepted (numbers_of t input taken last) ≡ Accepted n → AsRun
-  through input taken last h e =
+      numbers_of t input taken last ≡ n → AsRun
+  through input taken last h is =
       let all : taken ≡ h.said ++ End h.end ∷ [] = sym (keeps_all F valued taken) ∙ h.says in
       let runs = rw all at h.runs in
-      let is : numbers_of t input taken last ≡ n = cc in
       let same : h.end ≡ n.end = ends_at t h.end (start t.initial input) last h.said runs ∙ ap (λ x. x.end) is in
       record {
         short = h.short;
@@ -100,12 +98,12 @@ module _ (F : Form) (valued : F.valued ≡ true) (t : Table) (s : List ℕ) (n :
         longest_is = sym (ap (λ x. x.longest) is);
       }
 
-  accepted_run : Recovers F → Bytes s → check_under F t s ≡ Accepted n → AsRun
+  accepted_run : Recovers F → Bytes s → check_under F t s ≡ Ok n → AsRun
   unfolding answer_of_run
   accepted_run tells bytes e = go (run_over F t s) refl e
     where
-      go : (r : RunOverBytes) → run_over F t s ≡ r → answer_of_run t r ≡ Accepted n → AsRun
-      go (ran input taken last) is f = through input taken last (over_runs F t s input taken last tells bytes is) f
+      go : (r : RunOverBytes) → run_over F t s ≡ r → answer_of_run t r ≡ Ok n → AsRun
+      go (ran input taken last) is f = through input taken last (over_runs F t s input taken last tells bytes is) cc
       go too_long is f = apart cc
       go (refused refusal place) is f = apart cc
 
@@ -119,11 +117,11 @@ module _ (F : Form) (table s : List ℕ) where
   unfolding check_in
   under_in t ok is =
       let h = holds_that_table table t ok is in
-      sym (under_passes TableRefused (λ x. check_under F x s) table h.0 ∙ ap (λ x. check_under F x s) h.1)
+      sym (under_passes _ _ table h.0 ∙ ap (λ x. check_under F x s) h.1)
 
-  table_passes : (n : Numbers) → check_in F table s ≡ Accepted n → table_answer table ≡ Passes
+  table_passes : (n : Numbers) → check_in F table s ≡ Ok n → table_answer table ≡ Ok tt
   unfolding check_in
-  table_passes n e = under_passed TableRefused (λ x. check_under F x s) table _ (λ a f. apart cc) e
+  table_passes n e = under_passed _ _ table _ (λ a f. apart cc) e
 
 checks_in : (F : Form) → F.valued ≡ true → Recovers F → ChecksExactly F
 checks_in F valued tells table s bytes_of_table bytes n = (

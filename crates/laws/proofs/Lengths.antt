@@ -5,13 +5,11 @@ use Prim.Native.Nat.{ℕ}
 use native.Mathlib.Omega.{arith}
 use lib.ListN.{length, length-append, length-map}
 use Rattle.wire.specs.Encode.{field}
-use Rattle.wire.specs.Made.{refused}
 use Rattle.wire.proofs.Apart.{apart}
 use Rattle.table.specs.Check.{table_in}
 use Rattle.table.proofs.Under.{under_either}
 use Rattle.records.specs.declared.Record.TheVariants.{End}
 use Rattle.records.specs.Form as form
-use Rattle.runtime.specs.declared.Answer.TheVariants.{TableRefused}
 use Rattle.runtime.specs.Run.{journal_made, made_under, run_of}
 use Rattle.runtime.proofs.Lengths.{ran_lengths, journal_short}
 use Rattle.laws.specs.Runtimes.{event_for, EightForAnEvent, NeverTooLong}
@@ -21,8 +19,8 @@ use Rattle.laws.proofs.Runtimes.{wrote}
 made_under_lem : (table s j : List ℕ) → run_of table s ≡ journal_made j → made_under (table_in table) s ≡ journal_made j
 unfolding run_of
 made_under_lem table s j =
-    under_either (λ a. refused (TableRefused a)) (λ t. made_under t s) table (λ m. m ≡ journal_made j → made_under (table_in table) s ≡ journal_made j)
-    (λ passed e. e) (λ e. apart cc)
+    under_either _ _ table (λ m. m ≡ journal_made j → made_under (table_in table) s ≡ journal_made j)
+    (λ passed e. e) (λ refusal is e. apart cc)
 
 pub eight_for_an_event : EightForAnEvent
 unfolding field

@@ -6,12 +6,11 @@ use Prim.Native.Nat.{ℕ, zero, suc, ◌+◌, ◌*◌, ◌/◌, ◌%◌, ◌<◌
 use native.Mathlib.Omega.{arith}
 use borrow.Author.Tests.{lt-ltb, le-leb, ltb-true, leb-true}
 use lib.ListN.{length}
+use Rattle.std.specs.Prelude.{Ok}
 use Rattle.wire.specs.Choice.{◌<?◌, ◌≤?◌, ◌and◌}
 use Rattle.wire.specs.Encode.{Bytes, bytes32, field}
-use Rattle.wire.specs.Made.{refused}
 use Rattle.wire.proofs.Choice.{never, both}
 use Rattle.table.specs.declared.Table.{Table}
-use Rattle.table.specs.declared.Answer.TheVariants.{Passes}
 use Rattle.table.specs.Table.{WellFormed}
 use Rattle.table.specs.Check.{table_answer, table_in}
 use Rattle.table.proofs.Under.{under_passes}
@@ -27,8 +26,7 @@ use Rattle.machine.specs.Machine.{start, allowed, verdict, after}
 use Rattle.machine.specs.Run.{Runs}
 use Rattle.machine.specs.Walk.{in_table, filled}
 use Rattle.machine.proofs.Steps.{taken_step, end_taken, verdict_small}
-use Rattle.runtime.specs.declared.Answer.TheVariants.{TableRefused}
-use Rattle.runtime.specs.Run.{journal_made, made_of_run, made_under, run_of}
+use Rattle.runtime.specs.Run.{journal_made, made_of_run, run_of}
 use Rattle.machine.specs.RunsOver.{RunsOver}
 use Rattle.laws.specs.Journals.{JournalOf}
 use Rattle.laws.specs.Runtimes.{StimulusOf, event_for, LongestIsMade}
@@ -177,7 +175,7 @@ runs t bound end k (suc n) is m ready =
 
 -- ---- Their journal
 
-made : (table : List ℕ) → table_answer table ≡ Passes → (n : ℕ) → n ≤ 2730 →
+made : (table : List ℕ) → table_answer table ≡ Ok tt → (n : ℕ) → n ≤ 2730 →
     (s : List ℕ) × (j : List ℕ) × Bytes s × (run_of table s ≡ journal_made j) × (length j ≡ 11 + 24 * n)
 unfolding run_of made_of_run encode field
 made table passes n few =
@@ -199,7 +197,7 @@ made table passes n few =
     } in
     let j = written_in form.journal 0 r.0 in
     let through = runs_over stimulus t s 0 r.0 r.1 over in
-    let is : run_of table s ≡ journal_made j = under_passes (λ a. refused (TableRefused a)) (λ x. made_under x s) table passes ∙ ap made_of_run through in
+    let is : run_of table s ≡ journal_made j = under_passes _ _ table passes ∙ ap made_of_run through in
     let bytes = small_bytes (byte 0x20 (omega arith) (byte 0 (omega arith) (byte 1 (omega arith) (byte 0 (omega arith) (small n early 0 0 n (omega arith)))))) in
     (s, j, bytes, is, omega (arith, eight_for_an_event table s j is 0 es n st, cycles-length 0 n))
 

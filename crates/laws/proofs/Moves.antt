@@ -1,20 +1,19 @@
 -- What the calculator for several moves tells, as specs/Moves states it.
 use mathlib.Core.Path.{◌≡◌, refl, sym, ap}
-use mathlib.Core.Bool.{Bool, true, false}
+use mathlib.Core.Bool.{true}
 use mathlib.Core.List.{List}
 use Prim.Native.Nat.{ℕ, ◌+◌, ◌*◌}
 use lib.Arith.{digits_lt}
 use lib.ListN.{length, drop, get_or-append}
 use lib.Seq.{take-append_seam}
-use Rattle.std.specs.Prelude.{if◌then◌else◌}
+use Rattle.std.specs.Prelude.{Ok, Err}
 use Rattle.wire.proofs.Apart.{apart}
 use Rattle.table.specs.declared.Table.{Table}
 use Rattle.table.specs.Check.{table_in}
 use Rattle.reaction.specs.Reaction.{weight}
 use Rattle.reaction.proofs.Meaning.{stays}
 use Rattle.moves.specs.declared.Reaction.{Reaction}
-use Rattle.moves.specs.declared.Answer.TheVariants.{Reacts, Refused}
-use Rattle.moves.specs.Answer.{judged_passes?}
+use Rattle.moves.specs.Answer.{Judged, judged_passes?, judged_then}
 use Rattle.moves.specs.Moves.{next_times, rows, largest_sum, judge_of, reaction_over, sums_over, path_over, moves_of, sums_after, path_after}
 use Rattle.laws.specs.Moves.{Told, MovesTold}
 use Rattle.laws.proofs.Rounds.{weight_positive}
@@ -56,14 +55,13 @@ module _ {t : Table} {P A n : ℕ} {room room' : ℕ} (ok : Fits t P A n room ro
 
 -- Where it answers, nothing was turned down.
 module _ (s : List ℕ) (P A n : ℕ) (sums path : ℕ) where
-  pub answered : (r : Reaction) → moves_of s P A n sums path ≡ Reacts r → (judged_passes? (judge_of s P A n sums path) ≡ true) × (r ≡ reaction_over (table_in s) P A n)
+  pub answered : (r : Reaction) → moves_of s P A n sums path ≡ Ok r → (judged_passes? (judge_of s P A n sums path) ≡ true) × (r ≡ reaction_over (table_in s) P A n)
   unfolding moves_of
-  answered r e = go (judged_passes? (judge_of s P A n sums path)) e
+  answered r e = go (judge_of s P A n sums path) e
     where
-      go : (b : Bool) → (if b then Reacts (reaction_over (table_in s) P A n) else Refused (judge_of s P A n sums path)) ≡ Reacts r →
-          (b ≡ true) × (r ≡ reaction_over (table_in s) P A n)
-      go true e = (refl, cc)
-      go false e = apart cc
+      go : (j : Judged) → judged_then j (reaction_over (table_in s) P A n) ≡ Ok r → (judged_passes? j ≡ true) × (r ≡ reaction_over (table_in s) P A n)
+      go (Ok passed) e = (refl, cc)
+      go (Err refusal) e = apart cc
 
 pub moves_told : MovesTold
 unfolding sums_after path_after

@@ -9,42 +9,41 @@ use borrow.Author.Tests.{leb-false, lt-leb}
 use lib.ListN.{length, length-append, length-replicate, get_or-replicate}
 use lib.Seq.{take-append_seam}
 use lib.Arith.{digits_lt}
-use Rattle.std.specs.Prelude.{if◌then◌else◌}
+use Rattle.std.specs.Prelude.{if◌then◌else◌, Ok, Err}
 use Rattle.wire.specs.Choice.{◌≤?◌}
 use Rattle.wire.specs.Encode.{Bytes}
 use Rattle.wire.proofs.Apart.{apart}
-use Rattle.table.specs.declared.Answer.TheVariants.{Passes}
 use Rattle.table.specs.declared.Table.{Table}
 use Rattle.table.specs.Table.{WellFormed}
-use Rattle.table.specs.Answer.{passes?}
+use Rattle.table.specs.Answer.{TableAnswer}
 use Rattle.table.specs.Entries.{total, zeros}
 use Rattle.table.specs.Check.{table_answer, table_in}
-use Rattle.table.specs.Under.{under_table}
+use Rattle.table.specs.Under.{under_answer, under_table}
 use Rattle.table.proofs.Values.{total_none, total-add}
 use Rattle.table.proofs.WellFormed.{well_formed}
 use Rattle.records.specs.Form.{journal}
 use Rattle.records.specs.Record.{latest}
 use Rattle.machine.specs.Walk.{RunOverBytes, ran, too_long, refused, run_over}
-use Rattle.journal.specs.declared.Answer.TheVariants as checked
+use Rattle.journal.specs.declared.Refusal.TheVariants as check
 use Rattle.journal.specs.Check.{answer_of_run, check_in}
 use Rattle.tally.specs.declared.Tally.{Tally}
 use Rattle.tally.specs.Sums.{summed}
+use Rattle.tally.proofs.More.{summed-length}
 use Rattle.tally.proofs.Over.{records_over}
 use Rattle.tally.proofs.Totals.{dwell_sums_to_end, pairs_sum_to_dwell, entries_sum_to_moves, tally_small, places_of_tally}
-use Rattle.report.specs.declared.Answer.TheVariants.{Taken, Full}
+use Rattle.report.specs.declared.Refusal.TheVariants.{Full}
 use Rattle.report.specs.declared.Report.{Report}
-use Rattle.report.specs.declared.Added as added
-use Rattle.report.specs.Report.{most_journals, empty_with, begin_of, table_kept, with_tally, as_it_was, not_taken, added_by, add_under, add_of}
+use Rattle.report.specs.Report.{Added, most_journals, empty_with, begin_of, table_kept, with_tally, as_it_was, not_taken, added_by, add_under, add_of}
 use Rattle.laws.specs.Reports.{RefusedUnchanged, added_all, NoneFull, Permuted, empty, first, swapped, further, AnyOrder}
 use Rattle.laws.specs.Reports.{KnownJournal, known_of, known_journal_in, accepted, over_all, at, Tells, AllBytes, TellsAll, numbers_in, KnownAccepted}
 
 -- ---- One journal
 
 -- An accepted one is added, or finds the report full; any other leaves it as it was.
-abbrev Effect : Report → List KnownJournal → added.Added → Type 0
-Effect x [] r = (r.report ≡ x) × (r.answer ≡ Taken → ⊥) × (r.answer ≡ Full → ⊥)
+abbrev Effect : Report → List KnownJournal → Added → Type 0
+Effect x [] r = (r.report ≡ x) × (r.answer ≡ Ok tt → ⊥) × (r.answer ≡ Err Full → ⊥)
 Effect x (j ∷ js) r =
-    (js ≡ []) × (r ≡ (if most_journals ≤? x.journals then as_it_was x Full else record { answer = Taken; report = with_tally x j.tally }))
+    (js ≡ []) × (r ≡ (if most_journals ≤? x.journals then as_it_was x (Err Full) else record { answer = Ok tt; report = with_tally x j.tally }))
 
 run_effect : (t : Table) (x : Report) (r : RunOverBytes) → Effect x (known_of t r) (added_by t x r)
 unfolding known_of added_by
@@ -54,32 +53,35 @@ run_effect t x (refused refusal place) = (refl, (λ e. apart cc), (λ e. apart c
 
 effect : (x : Report) (s : List ℕ) → Effect x (known_journal_in (table_kept x) s) (add_of x s)
 unfolding add_of add_under known_journal_in under_table
-effect x s = go (passes? (table_answer (table_kept x)))
+effect x s = go (table_answer (table_kept x))
   where
-    go : (b : Bool) → Effect x (if b then known_of (table_in (table_kept x)) (run_over journal (table_in (table_kept x)) s) else [])
-        (if b then added_by (table_in (table_kept x)) x (run_over journal (table_in (table_kept x)) s) else not_taken x (checked.TableRefused (table_answer (table_kept x))))
-    go true = run_effect (table_in (table_kept x)) x (run_over journal (table_in (table_kept x)) s)
-    go false = (refl, (λ e. apart cc), (λ e. apart cc))
+    t : Table
+    t = table_in (table_kept x)
+
+    go : (a : TableAnswer) → Effect x (under_answer (λ why. []) (known_of t (run_over journal t s)) a)
+        (under_answer (λ why. not_taken x (check.Table why)) (added_by t x (run_over journal t s)) a)
+    go (Ok passed) = run_effect t x (run_over journal t s)
+    go (Err why) = (refl, (λ e. apart cc), (λ e. apart cc))
 
 -- With an accepted one, if the report is not full.
 module _ (x : Report) (j : KnownJournal) where
   abbrev more : Report
   more = with_tally x j.tally
 
-  taken_one : (r : added.Added) (js : List KnownJournal) → Effect x (j ∷ js) r → (r.answer ≡ Full → ⊥) →
+  taken_one : (r : Added) (js : List KnownJournal) → Effect x (j ∷ js) r → (r.answer ≡ Err Full → ⊥) →
       (x.journals < most_journals) × (r.report ≡ more)
   taken_one r js e other = go (most_journals ≤? x.journals) refl e.1
     where
-      go : (b : Bool) → (most_journals ≤? x.journals) ≡ b → r ≡ (if b then as_it_was x Full else record { answer = Taken; report = more }) →
+      go : (b : Bool) → (most_journals ≤? x.journals) ≡ b → r ≡ (if b then as_it_was x (Err Full) else record { answer = Ok tt; report = more }) →
           (x.journals < most_journals) × (r.report ≡ more)
-      go true is f = absurd (other (ap (λ (y : added.Added). y.answer) f))
-      go false is f = (leb-false most_journals x.journals is, ap (λ (y : added.Added). y.report) f)
+      go true is f = absurd (other (ap (λ (y : Added). y.answer) f))
+      go false is f = (leb-false most_journals x.journals is, ap (λ (y : Added). y.report) f)
 
-  not_full : (r : added.Added) (js : List KnownJournal) → Effect x (j ∷ js) r → x.journals < most_journals →
-      (r.answer ≡ Full → ⊥) × (r.report ≡ more)
+  not_full : (r : Added) (js : List KnownJournal) → Effect x (j ∷ js) r → x.journals < most_journals →
+      (r.answer ≡ Err Full → ⊥) × (r.report ≡ more)
   not_full r js e few =
-      let f : r ≡ record { answer = Taken; report = more } = rw (lt-leb most_journals x.journals few) at e.1 in
-      ((λ g. let h = sym (ap (λ (y : added.Added). y.answer) f) ∙ g in apart cc), ap (λ (y : added.Added). y.report) f)
+      let f : r ≡ record { answer = Ok tt; report = more } = rw (lt-leb most_journals x.journals few) at e.1 in
+      ((λ g. let h = sym (ap (λ (y : Added). y.answer) f) ∙ g in apart cc), ap (λ (y : Added). y.report) f)
 
 pub refused_unchanged : RefusedUnchanged
 refused_unchanged x s other = go (known_journal_in (table_kept x) s) (effect x s)
@@ -88,9 +90,9 @@ refused_unchanged x s other = go (known_journal_in (table_kept x) s) (effect x s
     go [] e = e.0
     go (j ∷ js) e = by (most_journals ≤? x.journals) e.1
       where
-        by : (b : Bool) → add_of x s ≡ (if b then as_it_was x Full else record { answer = Taken; report = with_tally x j.tally }) → (add_of x s).report ≡ x
-        by true f = ap (λ (y : added.Added). y.report) f
-        by false f = absurd (other (ap (λ (y : added.Added). y.answer) f))
+        by : (b : Bool) → add_of x s ≡ (if b then as_it_was x (Err Full) else record { answer = Ok tt; report = with_tally x j.tally }) → (add_of x s).report ≡ x
+        by true f = ap (λ (y : Added). y.report) f
+        by false f = absurd (other (ap (λ (y : Added). y.answer) f))
 
 -- ---- A season is its accepted journals
 
@@ -124,7 +126,7 @@ unfolding added_all NoneFull accepted with_all
 season [] x none = record { few = λ some. absurd (omega arith); is = refl }
 season (s ∷ ss) x none = go (known_journal_in (table_kept x) s) (effect x s) none.0 (season ss (add_of x s).report none.1)
   where
-    go : (js : List KnownJournal) → Effect x js (add_of x s) → ((add_of x s).answer ≡ Full → ⊥) →
+    go : (js : List KnownJournal) → Effect x js (add_of x s) → ((add_of x s).answer ≡ Err Full → ⊥) →
         Season (add_of x s).report ss (accepted (table_kept (add_of x s).report) ss) → Season x (s ∷ ss) (js ++ accepted (table_kept x) ss)
     go [] e other rest = let r = rw e.0 at rest in record { few = r.few; is = rw e.0 r.is }
     go (j ∷ js) e other rest =
@@ -139,7 +141,7 @@ none_full (s ∷ ss) x few = go (known_journal_in (table_kept x) s) (effect x s)
   where
     go : (js : List KnownJournal) → Effect x js (add_of x s) → Few x (js ++ accepted (table_kept x) ss) →
         (Few (add_of x s).report (accepted (table_kept (add_of x s).report) ss) → NoneFull (add_of x s).report ss) →
-        ((add_of x s).answer ≡ Full → ⊥) × NoneFull (add_of x s).report ss
+        ((add_of x s).answer ≡ Err Full → ⊥) × NoneFull (add_of x s).report ss
     go [] e few rest = (e.2, rest (rw e.0 few))
     go (j ∷ js) e few rest =
         let all : Few x (j ∷ accepted (table_kept x) ss) = rw e.0 at few in
@@ -243,12 +245,6 @@ each_append : (P : KnownJournal → Type 0) (js ks : List KnownJournal) → Each
 each_append P [] ks e f = f
 each_append P (j ∷ js) ks e f = (e.0, each_append P js ks e.1 f)
 
-pub length-summed : (sums numbers : List ℕ) → length (summed sums numbers) ≡ length sums
-unfolding summed
-length-summed [] numbers = refl
-length-summed (n ∷ sums) [] = refl
-length-summed (n ∷ sums) (i ∷ numbers) = ap suc (length-summed sums numbers)
-
 place_summed : (sums numbers : List ℕ) (k : ℕ) → k < length sums → at sums k + at numbers k < 2 ^ 64 → at (summed sums numbers) k ≡ at sums k + at numbers k
 unfolding summed
 place_summed [] numbers k inside low = absurd (not-suc-le-zero inside)
@@ -269,7 +265,7 @@ module _ (f : KnownJournal → List ℕ) where
   place_all k (j ∷ js) sums n inside low room each =
       let small = each.0 in
       let one : at (summed sums (f j)) k ≡ at sums k + at (f j) k = place_summed sums (f j) k inside (omega arith) in
-      let rest = place_all k js (summed sums (f j)) (n + 1) (rw (length-summed sums (f j)) inside) (omega arith) (omega arith) each.1 in
+      let rest = place_all k js (summed sums (f j)) (n + 1) (rw (summed-length sums (f j)) inside) (omega arith) (omega arith) each.1 in
       rest ∙ omega arith
 
   from_zeros : (k size : ℕ) (js : List KnownJournal) → k < size → length js ≤ most_journals → Each (λ j. at (f j) k ≤ most) js →
@@ -354,7 +350,7 @@ module _ (t : Table) (well : WellFormed t) (table : List ℕ) (js : List KnownJo
 
 -- ---- From the beginning
 
-pub begun_with : (table : List ℕ) → table_answer table ≡ Passes → (begin_of table).report ≡ empty_with table
+pub begun_with : (table : List ℕ) → table_answer table ≡ Ok tt → (begin_of table).report ≡ empty_with table
 unfolding begin_of
 begun_with table passes = rw passes refl
 
@@ -365,7 +361,7 @@ few_all : (table : List ℕ) (js : List KnownJournal) → Few (empty_with table)
 few_all table [] few = omega arith
 few_all table (j ∷ js) few = let all = few (omega arith) in omega arith
 
-module _ (table s : List ℕ) (passes : table_answer table ≡ Passes) (bytes : Bytes s) where
+module _ (table s : List ℕ) (passes : table_answer table ≡ Ok tt) (bytes : Bytes s) where
   abbrev t : Table
   t = table_in table
 
@@ -396,7 +392,7 @@ module _ (table s : List ℕ) (passes : table_answer table ≡ Passes) (bytes : 
   unfolding known_journal_in under_table
   known_sums = rw passes (run_sums (run_over journal t s) refl)
 
-each_accepted : (table : List ℕ) → table_answer table ≡ Passes → (ss : List (List ℕ)) → AllBytes ss → Each (Sums (table_in table)) (accepted table ss)
+each_accepted : (table : List ℕ) → table_answer table ≡ Ok tt → (ss : List (List ℕ)) → AllBytes ss → Each (Sums (table_in table)) (accepted table ss)
 unfolding accepted
 each_accepted table passes [] bytes = tt
 each_accepted table passes (s ∷ ss) bytes =
@@ -416,9 +412,12 @@ run_numbers t (refused refusal place) = refl
 
 pub known_accepted : KnownAccepted
 unfolding known_journal_in check_in under_table
-known_accepted table s = go (passes? (table_answer table))
+known_accepted table s = go (table_answer table)
   where
-    go : (b : Bool) → map (λ (j : KnownJournal). j.numbers) (if b then known_of (table_in table) (run_over journal (table_in table) s) else []) ≡
-        numbers_in (if b then answer_of_run (table_in table) (run_over journal (table_in table) s) else checked.TableRefused (table_answer table))
-    go true = run_numbers (table_in table) (run_over journal (table_in table) s)
-    go false = refl
+    t : Table
+    t = table_in table
+
+    go : (a : TableAnswer) → map (λ (j : KnownJournal). j.numbers) (under_answer (λ why. []) (known_of t (run_over journal t s)) a) ≡
+        numbers_in (under_answer (λ why. Err (check.Table why)) (answer_of_run t (run_over journal t s)) a)
+    go (Ok passed) = run_numbers t (run_over journal t s)
+    go (Err why) = refl

@@ -8,14 +8,15 @@ use native.Mathlib.Omega.{arith}
 use borrow.Author.Tests.{ltb-true, ltb-false}
 use lib.ListN.{length, get_or, take, drop, get_or-append}
 use lib.Seq.{ext_get_or, get_or-take, length-take-le, take-add, drop-drop, take_at}
+use Rattle.std.specs.Prelude.{Ok}
 use Rattle.wire.specs.Choice.{◌<?◌}
 use Rattle.wire.specs.Field.{byte_at, number32_at}
 use Rattle.wire.specs.Encode.{Bytes, field}
 use Rattle.wire.proofs.Laws.{WholeAt}
 use Rattle.wire.proofs.Standing.{stands_true}
 use Rattle.wire.proofs.Bytes.{byte_written, rest_written, number_written, field_written, byte_read, number_read, field_read}
-use Rattle.table.specs.declared.Answer.{Answer}
-use Rattle.table.specs.declared.Answer.TheVariants.{Passes}
+use Rattle.table.specs.declared.Refusal.{Refusal}
+use Rattle.table.specs.Answer.{TableAnswer}
 use Rattle.table.specs.Entries.{values, filled_to, zeros}
 use Rattle.table.specs.Check.{field_answer, row_answer, below, byte_entry, word_entry}
 use Rattle.table.specs.Table.{Uses}
@@ -80,7 +81,7 @@ module _ (s rest array : List ℕ) (at tag n : ℕ) (room : n ≤ length array) 
         ends = f.ends;
       }
 
-pub field_passes : (s : List ℕ) (at tag size : ℕ) → WholeAt s at tag size → field_answer s at tag size ≡ Passes
+pub field_passes : (s : List ℕ) (at tag size : ℕ) → WholeAt s at tag size → field_answer s at tag size ≡ Ok tt
 field_passes s at tag size whole = sym (stands_as_expected s at tag size (stands_true size tag tag s at tag whole (omega arith) (omega arith)))
 
 pub same_array : (n size : ℕ) (a b : List ℕ) → Uses n size a → Uses n size b → ((k : ℕ) → k < n → get_or a k 0 ≡ get_or b k 0) → a ≡ b
@@ -90,15 +91,15 @@ same_array n size a b in_a in_b same = ext_get_or 0 a b (in_a.places ∙ sym in_
     each k true e = same k (ltb-true k n e)
     each k false e = in_a.rest k (ltb-false k n e) ∙ sym (in_b.rest k (ltb-false k n e))
 
-pub all_pass : (s : List ℕ) (at tag size : ℕ) (entry : ℕ → Answer) (n : ℕ) → WholeAt s at tag size →
-    ((k : ℕ) → k < n → entry k ≡ Passes) → row_answer s at tag size entry n ≡ Passes
+pub all_pass : (s : List ℕ) (at tag size : ℕ) (entry : ℕ → TableAnswer) (n : ℕ) → WholeAt s at tag size →
+    ((k : ℕ) → k < n → entry k ≡ Ok tt) → row_answer s at tag size entry n ≡ Ok tt
 unfolding row_answer
 all_pass s at tag size entry n whole each =
     sym (goes_on (field_passes s at tag size whole) (each_pass entry n 0 (λ k l. each k (omega arith))))
 
 module _ {s rest array : List ℕ} {at tag size n : ℕ} {entry : ℕ → ℕ} (row : RowWritten s rest array at tag size n entry) where
-  pub row_passes : (limit : ℕ) (called : ℕ → Answer) → ((k : ℕ) → k < n → get_or array k 0 < limit) →
-      row_answer s at tag size (below limit entry called) n ≡ Passes
+  pub row_passes : (limit : ℕ) (called : ℕ → Refusal) → ((k : ℕ) → k < n → get_or array k 0 < limit) →
+      row_answer s at tag size (below limit entry called) n ≡ Ok tt
   row_passes limit called low =
       all_pass s at tag size _ n row.whole (λ k h. is_below limit entry called k (rw (row.entries k h) (low k h)))
 

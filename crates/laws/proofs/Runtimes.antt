@@ -7,15 +7,14 @@ use native.Mathlib.Omega.{arith}
 use borrow.Author.Tests.{le-ltb, ltb-false}
 use lib.ListN.{length, take, drop}
 use lib.Seq.{take-append_seam}
-use Rattle.std.specs.Prelude.{if◌then◌else◌}
+use Rattle.std.specs.Prelude.{if◌then◌else◌, Ok, Err}
 use Rattle.wire.specs.Choice.{◌<?◌, ◌≤?◌}
 use Rattle.wire.specs.Encode.{Bytes}
 use Rattle.wire.specs.Made as Made
-use Rattle.wire.specs.Made.{refused, buffer_in}
+use Rattle.wire.specs.Made.{buffer_in}
 use Rattle.wire.proofs.Apart.{apart}
 use Rattle.wire.proofs.Choice.{both}
 use Rattle.table.specs.declared.Table.{Table}
-use Rattle.table.specs.declared.Answer.TheVariants.{Passes}
 use Rattle.table.specs.Table.{output_of, WellFormed}
 use Rattle.table.specs.Encode.{table_bytes}
 use Rattle.table.specs.Check.{table_answer}
@@ -39,8 +38,8 @@ use Rattle.machine.proofs.Walk.{completed_in_range}
 use Rattle.machine.proofs.Over.{went_through}
 use Rattle.journal.specs.Check.{check_under, answer_of_run}
 use Rattle.journal.specs.declared.Numbers.{Numbers}
-use Rattle.journal.specs.declared.Answer.TheVariants as answer
-use Rattle.runtime.specs.declared.Answer.TheVariants.{Written, TableRefused, BufferTooShort}
+use Rattle.writing.specs.declared.Refusal.TheVariants.{BufferTooShort}
+use Rattle.runtime.specs.declared.Refusal.TheVariants.{Journal}
 use Rattle.runtime.specs.Run.{journal_made, made_of_run, made_under, run_of, answer_of}
 use Rattle.runtime.proofs.Lengths.{under_short}
 use Rattle.machine.specs.RunsOver.{RunsOver}
@@ -227,12 +226,12 @@ writes_accepted t good s input es end st j e =
 -- ---- Any accepted journal with that stimulus
 
 pub accepted_runs : (t : Table) (j : List ℕ) (input : ℕ) (rs : List Record) (end : ℕ) → JournalOf t j input rs end →
-    (n : Numbers) → check_under form.journal t j ≡ answer.Accepted n →
+    (n : Numbers) → check_under form.journal t j ≡ Ok n →
     (last : Machine) × Runs t (start t.initial input) (rs ++ End end ∷ []) last
 unfolding answer_of_run
 accepted_runs t j input rs end is n e = go (run_over form.journal t j) refl e
   where
-    go : (r : RunOverBytes) → run_over form.journal t j ≡ r → answer_of_run t r ≡ answer.Accepted n →
+    go : (r : RunOverBytes) → run_over form.journal t j ≡ r → answer_of_run t r ≡ Ok n →
         (last : Machine) × Runs t (start t.initial input) (rs ++ End end ∷ []) last
     go (ran input' taken last) r f =
         let o = over_written form.journal t j input' taken last input rs end is r in
@@ -267,11 +266,11 @@ writes_the_only t s j e j' a =
 -- ---- Success
 
 -- A journal that has room.
-fitting : (j : List ℕ) (room size : ℕ) → answer_of (journal_made j) room ≡ Written size → (length j ≡ size) × (size ≤ room)
+fitting : (j : List ℕ) (room size : ℕ) → answer_of (journal_made j) room ≡ Ok size → (length j ≡ size) × (size ≤ room)
 unfolding Made.answer_in
 fitting j room size e = go (room <? length j) refl e
   where
-    go : (short : Bool) → (room <? length j) ≡ short → (if short then BufferTooShort else Written (length j)) ≡ Written size → (length j ≡ size) × (size ≤ room)
+    go : (short : Bool) → (room <? length j) ≡ short → (if short then Err (Journal BufferTooShort) else Ok (length j)) ≡ Ok size → (length j ≡ size) × (size ≤ room)
     go true is f = apart cc
     go false is f =
         let same : length j ≡ size = cc in
@@ -294,11 +293,11 @@ module _ (t : Table) (good : WellFormed t) (s : List ℕ) (bytes : Bytes s) wher
         end_is = a.1;
       }
 
-  succeeded : (room size : ℕ) → answer_of (made_under t s) room ≡ Written size → laws.Writable t s room size
+  succeeded : (room size : ℕ) → answer_of (made_under t s) room ≡ Ok size → laws.Writable t s room size
   unfolding made_of_run Made.answer_in
   succeeded room size e = go (run_over form.stimulus t s) refl e
     where
-      go : (r : RunOverBytes) → run_over form.stimulus t s ≡ r → answer_of (made_of_run r) room ≡ Written size → laws.Writable t s room size
+      go : (r : RunOverBytes) → run_over form.stimulus t s ≡ r → answer_of (made_of_run r) room ≡ Ok size → laws.Writable t s room size
       go (ran input taken last) is f =
           let j = written_in form.journal input taken in
           let p = fitting j room size f in
@@ -312,7 +311,7 @@ module _ (t : Table) (good : WellFormed t) (s : List ℕ) (bytes : Bytes s) wher
       go too_long is f = apart cc
       go (walk.refused refusal place) is f = apart cc
 
-  succeeds : (room size : ℕ) → laws.Writable t s room size → answer_of (made_under t s) room ≡ Written size
+  succeeds : (room size : ℕ) → laws.Writable t s room size → answer_of (made_under t s) room ≡ Ok size
   unfolding Made.answer_in
   succeeds room size w = rw (writes t s w.journal w.short w.accepted, w.size_is, le-ltb room size w.fits) refl
 
@@ -326,13 +325,13 @@ module _ (table s : List ℕ) where
   unfolding run_of
   runs_under t good is =
       let h = holds_that_table table t good is in
-      sym (under_passes (λ a. refused (TableRefused a)) (λ x. made_under x s) table h.0 ∙ ap (λ x. made_under x s) h.1)
+      sym (under_passes _ _ table h.0 ∙ ap (λ x. made_under x s) h.1)
 
-  table_passes : (room size : ℕ) → answer_of (run_of table s) room ≡ Written size → table_answer table ≡ Passes
+  table_passes : (room size : ℕ) → answer_of (run_of table s) room ≡ Ok size → table_answer table ≡ Ok tt
   unfolding run_of Made.answer_in
   table_passes room size =
-      under_either (λ a. refused (TableRefused a)) (λ x. made_under x s) table (λ m. answer_of m room ≡ Written size → table_answer table ≡ Passes)
-      (λ e f. e) (λ f. apart cc)
+      under_either _ _ table (λ m. answer_of m room ≡ Ok size → table_answer table ≡ Ok tt)
+      (λ e f. e) (λ refusal is f. apart cc)
 
 pub runs_exactly : RunsExactly
 runs_exactly table s bytes_of_table bytes room size = (

@@ -5,36 +5,34 @@ use Prim.Native.Nat.{ℕ, ◌<◌}
 use native.Mathlib.Omega.{arith}
 use borrow.Author.Tests.{lt-ltb}
 use lib.ListN.{length, take}
+use Rattle.std.specs.Prelude.{Ok, Err}
 use Rattle.wire.specs.Encode.{Bytes, field}
-use Rattle.wire.specs.Made.{refused, answer_in}
-use Rattle.table.specs.declared.Answer.TheVariants.{Passes}
+use Rattle.wire.specs.Made.{answer_in}
 use Rattle.table.specs.Check.{table_answer, table_in}
 use Rattle.table.proofs.Under.{under_passes}
 use Rattle.table.proofs.WellFormed.{well_formed}
 use Rattle.records.specs.Form as form
 use Rattle.records.specs.Encode.{encode}
-use Rattle.journal.specs.declared.Answer.TheVariants as checked
-use Rattle.journal.specs.Check.{check_in, check_under}
+use Rattle.journal.specs.Check.{check_in}
 use Rattle.journal.proofs.Accepted.{accepted}
-use Rattle.runtime.specs.declared.Answer.TheVariants.{TableRefused}
-use Rattle.runtime.specs.Run.{made_under, run_of}
-use Rattle.salvage.specs.declared.Answer.TheVariants.{BufferTooShort}
+use Rattle.runtime.specs.Run.{run_of}
+use Rattle.salvage.specs.declared.Refusal.TheVariants.{BufferTooShort}
 use Rattle.laws.specs.Salvages.{salvage_answer, Salvageable, SalvageRoom}
 use Rattle.laws.proofs.Runtimes.{accepted_for}
 use Rattle.laws.proofs.Longest.{journal_bytes, longest_is_made}
 use Rattle.laws.proofs.Salvages.{unchanged_as, by_room}
 
-longest_needs : (table : List ℕ) → table_answer table ≡ Passes →
-    (s : List ℕ) × Bytes s × Salvageable table s × ((buffer : List ℕ) → length buffer < 65531 → salvage_answer table s buffer ≡ BufferTooShort)
+longest_needs : (table : List ℕ) → table_answer table ≡ Ok tt →
+    (s : List ℕ) × Bytes s × Salvageable table s × ((buffer : List ℕ) → length buffer < 65531 → salvage_answer table s buffer ≡ Err BufferTooShort)
 unfolding run_of check_in encode field answer_in
 longest_needs table passes =
     let t = table_in table in
     let good = well_formed table passes in
     let m = longest_is_made table passes in
     let j = m.1 in
-    let made = sym (under_passes (λ a. refused (TableRefused a)) (λ x. made_under x m.0) table passes) ∙ m.3 in
+    let made = sym (under_passes _ _ table passes) ∙ m.3 in
     let a = accepted_for t good m.0 m.2 j made in
-    let ok = accepted form.journal table j a.numbers (under_passes checked.TableRefused (λ x. check_under form.journal x j) table passes ∙ a.accepted) in
+    let ok = accepted form.journal table j a.numbers (under_passes _ _ table passes ∙ a.accepted) in
     let same = unchanged_as table passes j ok.input ok.taken ok.last ok.through in
     let can : Salvageable table j = record {
       passes = passes;

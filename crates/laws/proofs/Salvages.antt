@@ -8,21 +8,19 @@ use native.Mathlib.Omega.{arith}
 use borrow.Author.Tests.{lt-ltb, le-ltb, ltb-false, leb-true}
 use lib.ListN.{length, take, drop, take-append-drop}
 use lib.Seq.{length-take-le, take_at, drop_at}
-use Rattle.std.specs.Prelude.{if◌then◌else◌}
+use Rattle.std.specs.Prelude.{if◌then◌else◌, Ok, Err}
 use Rattle.wire.specs.Choice.{◌<?◌, ◌≤?◌}
 use Rattle.wire.specs.Encode.{Bytes, bytes32, field}
 use Rattle.wire.specs.Made.{Made, refused, made, answer_in, buffer_in}
 use Rattle.wire.proofs.Apart.{apart}
 use Rattle.wire.proofs.Choice.{both}
 use Rattle.table.specs.declared.Table.{Table}
-use Rattle.table.specs.declared.Answer.TheVariants.{Passes}
 use Rattle.table.specs.Check.{table_answer, table_in}
 use Rattle.table.proofs.Under.{under_passes, under_either}
 use Rattle.records.specs.declared.Record.{Record}
 use Rattle.records.specs.declared.Record.TheVariants.{Change, Poll, Test, Tick, End}
 use Rattle.records.specs.declared.Refusal.{Refusal}
-use Rattle.records.specs.declared.Opening.{Opening}
-use Rattle.records.specs.declared.Opening.TheVariants as opening
+use Rattle.records.specs.Reading.{Opening}
 use Rattle.records.specs.Record.{latest}
 use Rattle.records.specs.Refusal.{number_of}
 use Rattle.records.specs.Form.{journal, longest_journal}
@@ -36,11 +34,12 @@ use Rattle.machine.specs.Machine.{start, after}
 use Rattle.machine.specs.Walk.{in_table, Walk, ended, stopped, walk, ran, ran_from, records_run, run_over}
 use Rattle.machine.proofs.Steps.{end_taken}
 use Rattle.machine.proofs.Over.{went_through, goes_through, opened_with}
-use Rattle.journal.specs.declared.Answer.TheVariants as checked
-use Rattle.journal.specs.Check.{check_in, numbers_of, answer_of_run, check_of, check_under}
-use Rattle.salvage.specs.declared.Answer.{Answer}
-use Rattle.salvage.specs.declared.Answer.TheVariants.{Salvaged, Refused, BufferTooShort}
-use Rattle.salvage.specs.Salvage.{Cut, cut_at, first_cut, last_cut, cut_after, cut_over, unchanged, made_by, opened, salvage_under, salvage_of}
+use Rattle.journal.specs.declared.Refusal.TheVariants as checked
+use Rattle.journal.specs.Check.{check_in, numbers_of, answer_of_run, check_of}
+use Rattle.salvage.specs.declared.Salvaged.{Salvaged}
+use Rattle.salvage.specs.declared.Refusal.TheVariants.{Check, BufferTooShort}
+use Rattle.salvage.specs.Answer.{SalvageAnswer}
+use Rattle.salvage.specs.Salvage.{Cut, cut_at, first_cut, last_cut, cut_after, cut_over, salvaged, unchanged, made_by, opened, salvage_under, salvage_of}
 use Rattle.salvage.proofs.Reaching.{OneTaken, reaches}
 use Rattle.machine.specs.RunsOver.{RunsOver}
 use Rattle.machine.proofs.RunsOver.{over_runs, runs_over}
@@ -137,21 +136,21 @@ module _ (t : Table) (s : List ℕ) (input : ℕ) where
 
 -- ---- What is made
 
-module _ (table : List ℕ) (passes : table_answer table ≡ Passes) where
+module _ (table : List ℕ) (passes : table_answer table ≡ Ok tt) where
   abbrev own : Table
   own = table_in table
 
   check_is : (s : List ℕ) → check_of table s ≡ answer_of_run own (run_over journal own s)
   unfolding check_in
-  check_is s = under_passes checked.TableRefused (λ t. check_under journal t s) table passes
+  check_is s = under_passes _ _ table passes
 
   salvage_is : (s : List ℕ) → salvage_of table s ≡ salvage_under own s
   unfolding salvage_of
-  salvage_is s = under_passes (λ a. refused (Refused (checked.TableRefused a))) (λ t. salvage_under t s) table passes
+  salvage_is s = under_passes _ _ table passes
 
   -- A journal that the machine goes through is accepted, and comes back.
   module _ (s : List ℕ) (input : ℕ) (taken : List Record) (last : Machine) (through : run_over journal own s ≡ ran input taken last) where
-    accepted_as : check_of table s ≡ checked.Accepted (numbers_of own input taken last)
+    accepted_as : check_of table s ≡ Ok (numbers_of own input taken last)
     unfolding answer_of_run
     accepted_as = check_is s ∙ ap (answer_of_run own) through
 
@@ -176,7 +175,7 @@ module _ (table : List ℕ) (passes : table_answer table ≡ Passes) where
       again = comes_back;
     }
 
-  module _ (s : List ℕ) (bytes : Bytes s) (short : length s ≤ longest_journal) (input : ℕ) (is : opening_of journal own.inputs s ≡ opening.Input input) where
+  module _ (s : List ℕ) (bytes : Bytes s) (short : length s ≤ longest_journal) (input : ℕ) (is : opening_of journal own.inputs s ≡ Ok input) where
     abbrev cut : Cut
     cut = last_of own s input
 
@@ -232,7 +231,7 @@ module _ (table : List ℕ) (passes : table_answer table ≡ Passes) where
 
 -- ---- The opening field
 
-opens_with : (s : List ℕ) (input inputs : ℕ) → input < inputs → take 4 s ≡ field 0x10 (input ∷ []) → opening_of journal inputs s ≡ opening.Input input
+opens_with : (s : List ℕ) (input inputs : ℕ) → input < inputs → take 4 s ≡ field 0x10 (input ∷ []) → opening_of journal inputs s ≡ Ok input
 opens_with s input inputs h e =
     (opening_written 0x10 4 5 inputs s (drop 4 s) input h (sym (take-append-drop 4 s) ∙ ap (λ l. l ++ drop 4 s) e)).0
 
@@ -246,29 +245,29 @@ run_length t s input taken last over =
 
 module _ (table s : List ℕ) where
   -- Where bytes are made, the journal can be salvaged; they are sound, and as many as the report says, but not many.
-  record Reported (a : Answer) (result : List ℕ) : Type 0 where
+  record Reported (a : SalvageAnswer) (result : List ℕ) : Type 0 where
     can : Salvageable table s
     kept : ℕ
     dropped : ℕ
     number : ℕ
     place : ℕ
-    is : a ≡ Salvaged kept dropped number place
+    is : a ≡ salvaged kept dropped number place
     sound : Sound table s kept dropped number place result
     long : length result ≡ result_size kept number
     few : length result ≤ 65531
 
-  abbrev Fine : Made Answer → Type 0
-  Fine (refused a) = (kept dropped number place : ℕ) → a ≡ Salvaged kept dropped number place → ⊥
+  abbrev Fine : Made SalvageAnswer → Type 0
+  Fine (refused a) = (kept dropped number place : ℕ) → a ≡ salvaged kept dropped number place → ⊥
   Fine (made a result) = Reported a result
 
-  under : Bytes s → table_answer table ≡ Passes → Fine (salvage_under (table_in table) s)
+  under : Bytes s → table_answer table ≡ Ok tt → Fine (salvage_under (table_in table) s)
   unfolding salvage_under opened field
   under bytes passes = sized (longest_journal <? length s) refl
     where
       t : Table
       t = table_in table
 
-      walked : Salvageable table s → length s ≤ longest_journal → (input : ℕ) → opening_of journal t.inputs s ≡ opening.Input input → (w : Walk) →
+      walked : Salvageable table s → length s ≤ longest_journal → (input : ℕ) → opening_of journal t.inputs s ≡ Ok input → (w : Walk) →
           walk journal t (from t s input) (items t s input) ≡ w → Fine (made_by s (last_of t s input) w)
       walked can short input is (ended taken last) ends =
           let through = goes_through journal t s input taken last (record { short = short; opens = is; walks = ends }) in
@@ -299,8 +298,8 @@ module _ (table s : List ℕ) where
           }
 
       begins : length s ≤ longest_journal → (o : Opening) → opening_of journal t.inputs s ≡ o → Fine (opened t s o)
-      begins short (opening.Refused refusal) is = λ k d n p e. apart cc
-      begins short (opening.Input input) is =
+      begins short (Err refusal) is = λ k d n p e. apart cc
+      begins short (Ok input) is =
           let opens = opening_at 0x10 4 5 t.inputs s input is in
           let can : Salvageable table s = record {
             passes = passes;
@@ -311,36 +310,39 @@ module _ (table s : List ℕ) where
           } in
           walked can short input is _ refl
 
-      sized : (b : Bool) → (longest_journal <? length s) ≡ b → Fine (if b then refused (Refused checked.TooLong) else opened t s (opening_of journal t.inputs s))
+      sized : (b : Bool) → (longest_journal <? length s) ≡ b → Fine (if b then refused (Err (Check checked.TooLong)) else opened t s (opening_of journal t.inputs s))
       sized true e = λ k d n p f. apart cc
       sized false e = begins (ltb-false longest_journal (length s) e) (opening_of journal t.inputs s) refl
 
   always_fine : Bytes s → Fine (salvage_of table s)
   unfolding salvage_of
-  always_fine bytes = under_either (λ a. refused (Refused (checked.TableRefused a))) (λ t. salvage_under t s) table Fine (under bytes) (λ k d n p e. apart cc)
+  always_fine bytes = under_either _ _ table Fine (under bytes) (λ refusal is k d n p e. apart cc)
 
-  succeeded : (buffer : List ℕ) (kept dropped number place : ℕ) (m : Made Answer) → Fine m →
-      answer_in BufferTooShort m (length buffer) ≡ Salvaged kept dropped number place →
+  report_same : {kept dropped number place kept' dropped' number' place' : ℕ} → salvaged kept dropped number place ≡ salvaged kept' dropped' number' place' →
+      (kept ≡ kept') × (dropped ≡ dropped') × (number ≡ number') × (place ≡ place')
+  report_same {kept} {dropped} {number} {place} {kept'} {dropped'} {number'} {place'} e =
+      let same : ◌≡◌ {A = Salvaged} (record { kept = kept; dropped = dropped; number = number; place = place })
+      (record { kept = kept'; dropped = dropped'; number = number'; place = place' }) = cc in
+      (ap (λ (x : Salvaged). x.kept) same, ap (λ (x : Salvaged). x.dropped) same, ap (λ (x : Salvaged). x.number) same, ap (λ (x : Salvaged). x.place) same)
+
+  succeeded : (buffer : List ℕ) (kept dropped number place : ℕ) (m : Made SalvageAnswer) → Fine m →
+      answer_in (Err BufferTooShort) m (length buffer) ≡ salvaged kept dropped number place →
       Sound table s kept dropped number place (take (result_size kept number) (buffer_in m buffer)) × Salvageable table s
   unfolding answer_in buffer_in
   succeeded buffer kept dropped number place (refused a) fine e = absurd (fine kept dropped number place e)
   succeeded buffer kept dropped number place (made a result) fine e = go (length buffer <? length result) e
     where
-      go : (b : Bool) → (if b then BufferTooShort else a) ≡ Salvaged kept dropped number place →
+      go : (b : Bool) → (if b then Err BufferTooShort else a) ≡ salvaged kept dropped number place →
           Sound table s kept dropped number place (take (result_size kept number) (if b then buffer else result ++ drop (length result) buffer))
           × Salvageable table s
       go true f = apart cc
       go false f =
-          let same = sym fine.is ∙ f in
-          let e₁ : fine.kept ≡ kept = cc in
-          let e₂ : fine.dropped ≡ dropped = cc in
-          let e₃ : fine.number ≡ number = cc in
-          let e₄ : fine.place ≡ place = cc in
-          rw (← e₁, ← e₂, ← e₃, ← e₄, take_at result (drop (length result) buffer) (result_size fine.kept fine.number) fine.long)
+          let same = report_same (sym fine.is ∙ f) in
+          rw (← same.0, ← same.1, ← same.2, ← same.3, take_at result (drop (length result) buffer) (result_size fine.kept fine.number) fine.long)
           (fine.sound, fine.can)
 
   -- Whatever stops the walk, bytes are made.
-  makes : Salvageable table s → (a : Answer) × (result : List ℕ) × (salvage_of table s ≡ made a result)
+  makes : Salvageable table s → (a : SalvageAnswer) × (result : List ℕ) × (salvage_of table s ≡ made a result)
   unfolding salvage_under opened
   makes can =
       let t = table_in table in
@@ -348,7 +350,7 @@ module _ (table s : List ℕ) where
       let w = walked (last_of t s can.input) (walk journal t (from t s can.input) (items t s can.input)) in
       (w.0, w.1, salvage_is table can.passes s ∙ rw (le-ltb longest_journal (length s) can.short, is) w.2)
     where
-      walked : (cut : Cut) (w : Walk) → (a : Answer) × (result : List ℕ) × (made_by s cut w ≡ made a result)
+      walked : (cut : Cut) (w : Walk) → (a : SalvageAnswer) × (result : List ℕ) × (made_by s cut w ≡ made a result)
       walked cut (ended taken last) = (_, _, refl)
       walked cut (stopped x place) = (_, _, refl)
 

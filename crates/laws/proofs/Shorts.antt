@@ -6,6 +6,7 @@ use Prim.Native.Nat.{ℕ, ◌<◌, ◌≤◌}
 use native.Mathlib.Omega.{arith}
 use borrow.Author.Tests.{ltb-true, ltb-false}
 use lib.ListN.{length}
+use Rattle.std.specs.Prelude.{Ok, Err}
 use Rattle.wire.specs.Choice.{◌<?◌}
 use Rattle.wire.specs.Encode.{Bytes}
 use Rattle.wire.specs.Made.{refused, made}
@@ -24,8 +25,8 @@ use Rattle.machine.specs.Gaps.{Spaced}
 use Rattle.machine.proofs.Gaps.{TellsGaps, gaps_within_bound, inner_restated}
 use Rattle.machine.proofs.RunsOver.{over_written, over_runs, runs_over}
 use Rattle.journal.specs.Check.{check_in}
-use Rattle.restate.specs.declared.Answer.{Answer}
-use Rattle.restate.specs.declared.Answer.TheVariants.{Written, OldFormTooLong}
+use Rattle.restate.specs.declared.Refusal.TheVariants.{OldFormTooLong}
+use Rattle.restate.specs.Answer.{RestateAnswer}
 use Rattle.journal.specs.Accepted.{AcceptedIn}
 use Rattle.journal.proofs.Accepted.{check_accepts, accepted, entry_under}
 use Rattle.journal.proofs.Ahead.{not_too_long}
@@ -94,11 +95,11 @@ module _ (F G : Form) (valued : F.valued ≡ true) (tells : Recovers F) (gaps : 
     other_answer = check_accepts G table other other_accepted ∙ sym (check_accepts F table s ok)
 
     -- From it the first comes back.
-    pub comes_back : restated F (run_over G (table_in table) other) ≡ made (Written (length s)) s
+    pub comes_back : restated F (run_over G (table_in table) other) ≡ made (Ok (length s)) s
     unfolding restated
     comes_back =
         let is = given_is F G valued gaps.valued tells table s ok bytes in
-        rw other_accepted.through (ap (λ l. made (Written (length l)) l) is)
+        rw other_accepted.through (ap (λ l. made (Ok (length l)) l) is)
 
 -- ---- Shortened
 
@@ -114,17 +115,17 @@ module _ (table j : List ℕ) (bytes : Bytes j) (ok : AcceptedIn journal table j
   few : length shorter ≤ short.most
   few = omega (arith, shorter_well)
 
-  shortened : shorten_of table j ≡ made (Written (length shorter)) shorter
+  shortened : shorten_of table j ≡ made (Ok (length shorter)) shorter
   unfolding shorten_of
   shortened =
       sym (entry_under passed_on to_short journal table j ok.passes) ∙ restated_is journal short refl refl journal_recovers table j ok
 
 -- What was shortened was accepted.
-shortened_accepted : (table j s : List ℕ) (answer : Answer) → shorten_of table j ≡ made answer s → AcceptedIn journal table j
+shortened_accepted : (table j s : List ℕ) (answer : RestateAnswer) → shorten_of table j ≡ made answer s → AcceptedIn journal table j
 unfolding shorten_of
 shortened_accepted table j s answer e = made_accepted journal to_short shortens table j answer s e
 
-shortened_bytes : (table j s : List ℕ) (answer : Answer) → (e : shorten_of table j ≡ made answer s) → (ok : AcceptedIn journal table j) → Bytes j → s ≡ written_in short ok.input ok.taken
+shortened_bytes : (table j s : List ℕ) (answer : RestateAnswer) → (e : shorten_of table j ≡ made answer s) → (ok : AcceptedIn journal table j) → Bytes j → s ≡ written_in short ok.input ok.taken
 shortened_bytes table j s answer e ok bytes = let same = sym e ∙ shortened table j bytes ok in cc
 
 pub shortened_same : ShortenedSame
@@ -158,17 +159,17 @@ module _ (table s : List ℕ) (bytes : Bytes s) (ok : AcceptedIn short table s) 
   old_length_lem : length longer ≡ old_length s
   old_length_lem = let l = lengths short journal refl refl short_recovers table s ok bytes in omega (arith, l.given, l.written)
 
-  makes : restated journal (run_over short (table_in table) s) ≡ made (Written (length longer)) longer
+  makes : restated journal (run_over short (table_in table) s) ≡ made (Ok (length longer)) longer
   makes = restated_is short journal refl refl short_recovers table s ok
 
   entry : within_limit (restated journal (run_over short (table_in table) s)) ≡ lengthen_of table s
   unfolding lengthen_of
   entry = entry_under passed_on to_journal short table s ok.passes
 
-  lengthened : length longer ≤ longest_journal → lengthen_of table s ≡ made (Written (length longer)) longer
+  lengthened : length longer ≤ longest_journal → lengthen_of table s ≡ made (Ok (length longer)) longer
   lengthened h = sym entry ∙ within_limit_lem _ _ longer makes h
 
-  not_lengthened : longest_journal < length longer → lengthen_of table s ≡ refused OldFormTooLong
+  not_lengthened : longest_journal < length longer → lengthen_of table s ≡ refused (Err OldFormTooLong)
   not_lengthened h = sym entry ∙ past_limit _ _ longer makes h
 
 pub others_too_long : OthersTooLong
@@ -189,11 +190,11 @@ shorts_come_back table s n bytes e h =
     )
 
 -- What was lengthened was accepted, and had room.
-lengthened_accepted : (table s j : List ℕ) (answer : Answer) → lengthen_of table s ≡ made answer j → AcceptedIn short table s
+lengthened_accepted : (table s j : List ℕ) (answer : RestateAnswer) → lengthen_of table s ≡ made answer j → AcceptedIn short table s
 unfolding lengthen_of
 lengthened_accepted table s j answer e = made_accepted short to_journal lengthens table s answer j e
 
-lengthened_room : (table s j : List ℕ) (answer : Answer) → lengthen_of table s ≡ made answer j → (bytes : Bytes s) (ok : AcceptedIn short table s) →
+lengthened_room : (table s j : List ℕ) (answer : RestateAnswer) → lengthen_of table s ≡ made answer j → (bytes : Bytes s) (ok : AcceptedIn short table s) →
     length (longer table s bytes ok) ≤ longest_journal
 lengthened_room table s j answer e bytes ok = go (longest_journal <? length (longer table s bytes ok)) refl
   where

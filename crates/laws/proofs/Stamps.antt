@@ -5,6 +5,7 @@ use mathlib.Core.Bool.{Bool}
 use Prim.Native.Nat.{ℕ, ◌+◌, ◌≤◌}
 use native.Mathlib.Omega.{arith}
 use lib.ListN.{length}
+use Rattle.std.specs.Prelude.{Ok, Err}
 use Rattle.wire.specs.Made.{made}
 use Rattle.wire.proofs.Apart.{apart}
 use Rattle.wire.proofs.Made.{owed_made}
@@ -25,9 +26,8 @@ use Rattle.records.proofs.Reading.{opening_at}
 use Rattle.machine.specs.Walk.{in_table}
 use Rattle.machine.proofs.Gaps.{TellsGaps, gaps_within_bound, inner_restated}
 use Rattle.journal.specs.declared.Numbers.{Numbers}
-use Rattle.journal.specs.declared.Answer.TheVariants.{Accepted}
 use Rattle.journal.proofs.Accepted.{passed}
-use Rattle.writing.specs.declared.Answer.TheVariants.{Written, BufferTooShort}
+use Rattle.writing.specs.declared.Refusal.TheVariants.{BufferTooShort}
 use Rattle.stamped.specs.Stamped.{listed, before, list_of, made_of_records, read_of}
 use Rattle.stamped.proofs.Over.{opened_with}
 use Rattle.stamped.proofs.Lengths.{read_short}
@@ -43,7 +43,7 @@ unfolding list_of placed
 list_placed F at [] end = refl
 list_placed F at (r ∷ rs) end = ap (before r) (list_placed F (at + size_of F r) rs end)
 
--- Written records are in range of any reader that asks less.
+-- Ok records are in range of any reader that asks less.
 loosened : (F : Form) (allows : Record → Bool) (before : ℕ) (rs : List Record) (end : ℕ) → Inner F allows before rs end → Inner F any_record before rs end
 loosened F allows before [] end w = record { in_range = refl; whole = w.whole; small = w.small; timed = w.timed }
 loosened F allows before (r ∷ rs) end (other, w, more) =
@@ -90,22 +90,22 @@ module _ (t : Table) (good : WellFormed t) (j : List ℕ) (n : Numbers) (run : A
   stamps_written : WrittenAs stamped any_record 256 stamps run.input run.records n.end
   stamps_written = record { opens = omega (arith, run.written.opens, good.inputs.1); inner = inner; is = refl }
 
-  comes_back : read_of stamps ≡ made (Written (length j)) j
+  comes_back : read_of stamps ≡ made (Ok (length j)) j
   unfolding made_of_records encode
   comes_back =
       let read = reads_written stamped any_record 256 stamps run.input run.records n.end stamps_written in
       let long : encode journal run.input run.records n.end ≡ j = sym run.written.is in
       sym (opened_with stamps short _ refl run.input read.0)
-      ∙ rw (read.1, list_placed stamped 4 run.records n.end) (ap (λ l. made (Written (length l)) l) long)
+      ∙ rw (read.1, list_placed stamped 4 run.records n.end) (ap (λ l. made (Ok (length l)) l) long)
 
 pub stamped_comes_back : StampedComesBack
 stamped_comes_back table j buffer bytes n e room =
     let t = table_in table in
-    let p = passed journal table j (Accepted n) (λ a f. apart cc) e in
+    let p = passed journal table j (Ok n) (λ a f. apart cc) e in
     let good = well_formed table p.0 in
     let run = (accepts_exactly journal refl journal_recovers t j bytes n).0 p.1 in
     let is = ap read_of (stamped_is t good j n run) ∙ comes_back t good j n run in
-    let owed = owed_made BufferTooShort _ _ j buffer is room _ refl in
+    let owed = owed_made (Err BufferTooShort) _ _ j buffer is room _ refl in
     (rw (stamped_is t good j n run) (short t good j n run), sym owed.0, sym owed.1)
 
 pub reads_no_longer : ReadsNoLonger

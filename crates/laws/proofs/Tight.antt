@@ -16,6 +16,7 @@ use Rattle.reaction.specs.Reaction.{next_set, off_target, weight}
 use Rattle.reaction.specs.Meaning.{Known}
 use Rattle.reaction.proofs.Meaning.{AllExist}
 use Rattle.moves.specs.Moves.{next_times, largest_sum, reaction_over}
+use Rattle.moves.proofs.Rows.{same_largest}
 use Rattle.tight.specs.Tight.{tight_time}
 use Rattle.tight.specs.Several.{tight_weight, tight_time_over}
 use Rattle.tight.proofs.Time.{Slowest, NoneOutside, slowest, tight_covers}
@@ -24,7 +25,7 @@ use Rattle.laws.specs.Paths.{sum_of, Largest}
 use Rattle.laws.specs.Tight.{holds_on, NoPath, TightMeans, BelowOver, TightOverMeans, TightOverBelow, TightOfNone, TightOfOne}
 use Rattle.laws.proofs.Rounds.{weight_positive}
 use Rattle.laws.proofs.Paths.{only_empty, largest_is_of_all}
-use Rattle.laws.proofs.OneMove.{largest_same, row_of_weights}
+use Rattle.laws.proofs.OneMove.{row_of_weights}
 
 -- On one path the two sums are apart by the states with a weight from a hold.
 apart_by_holds : (t : Table) (A : ℕ) (path : List ℕ) → sum_of (tight_weight t A) path + holds_on t A path ≡ sum_of (weight t A) path
@@ -89,7 +90,7 @@ module _ {t : Table} {P A : ℕ} (all : AllExist t P A) where
 
   one_sum : largest_sum t P A (next_times t P A 1) (tight_weight t A) 1 ≡ largest t.states outside (tight_weight t A)
   unfolding next_times largest_sum
-  one_sum = largest_same t.states outside _ (tight_weight t A) (row_of_weights all (next_set t P A) (tight_weight t A))
+  one_sum = same_largest t.states outside _ (tight_weight t A) (row_of_weights all (next_set t P A) (tight_weight t A))
 
   one : tight_time_over t P A 1 ≡ tight_time t P A
   one = go (slowest t P A all.table.bound.0)

@@ -2,19 +2,21 @@
 use mathlib.Core.Path.{◌≡◌, refl, sym, ap, ◌∙◌}
 use mathlib.Core.List.{List, [], ◌++◌, append_assoc, append-nil}
 use mathlib.Core.Logic.{⊎_elim}
-use mathlib.Core.Bool.{Bool, true, false, not, ◌&&◌}
-use Prim.Native.Nat.{ℕ, zero, suc, ◌+◌, ◌-◌, ◌*◌, ◌/◌, ◌%◌, ◌^◌, ◌<◌, ◌≤◌}
+use mathlib.Core.Bool.{Bool, true, false, not}
+use Prim.Native.Nat.{ℕ, ◌+◌, ◌-◌, ◌*◌, ◌/◌, ◌%◌, ◌^◌, ◌<◌, ◌≤◌}
 use native.Mathlib.Nat.{mul-le-mul, mod-lt, div-add-mod', div-lt_iff_lt-mul}
 use native.Mathlib.Omega.{arith}
 use borrow.Author.Tests.{le-leb, eq-eqb, ne_eqb, eqb-true, eqb-false}
 use lib.ListN.{length, get_or, take, drop, length-drop, drop_of_length-le}
-use Rattle.std.specs.Prelude.{if◌then◌else◌}
+use Rattle.std.proofs.Math.Bool.{and-false}
+use Rattle.std.proofs.Math.Nat.{pos_of_ne-zero}
+use Rattle.std.specs.Prelude.{if◌then◌else◌, Ok}
 use Rattle.wire.specs.Choice.{◌=?◌}
 use Rattle.wire.specs.Field.{number32_at}
 use Rattle.wire.specs.Encode.{Bytes, field}
 use Rattle.wire.proofs.Laws.{WholeAt}
 use Rattle.sets.proofs.Members.{below_limit}
-use Rattle.table.specs.declared.Answer.TheVariants.{Passes, WrongTagOrLength, BytesAfter}
+use Rattle.table.specs.declared.Refusal.TheVariants.{WrongTagOrLength, BytesAfter}
 use Rattle.table.specs.declared.Counts.{Counts}
 use Rattle.table.specs.declared.Table.{Table}
 use Rattle.table.specs.Entries.{filled_to, zeros}
@@ -52,7 +54,7 @@ module _ (s : List ℕ) (bytes : Bytes s) (c : Counts) where
       let next : hold_field c + 3 + 4 * (2 * n) ≡ timer_set_field c n = omega arith in
       rw (ne_eqb n 0 (λ e. omega arith)) (f₇ ∙ rw (next, f₈, no_more _ stands.ends, append-nil) refl)
 
-  pub timing_read : (old : Bool) → timing_answer old c s ≡ Passes → drop (hold_field c) s ≡ timing (table_of c s)
+  pub timing_read : (old : Bool) → timing_answer old c s ≡ Ok tt → drop (hold_field c) s ≡ timing (table_of c s)
   timing_read old e = ⊎_elim
       (λ stands. rw stands.none (holds_read old stands))
       (λ found. rw found.1.some (timers_read _ found.1))
@@ -66,24 +68,16 @@ unused entry size array uses = same_array 0 size _ array (filled_uses entry 0 si
 
 -- The fields pass, and the arrays of a table with so many timers are kept.
 pub record TimingWritten (old : Bool) (t : Table) (s : List ℕ) (c : Counts) : Type 0 where
-  pub passes : timing_answer old c s ≡ Passes
+  pub passes : timing_answer old c s ≡ Ok tt
   pub timers : timers_in c s ≡ t.timers
   pub hold : filled_to (word_entry s (hold_field c)) (if t.timers =? 0 then c.states else 0) (zeros 32) ≡ t.hold
   pub delayed : filled_to (word_entry s (delayed_field c)) (if t.timers =? 0 then c.states else 0) (zeros 32) ≡ t.delayed
   pub timing : filled_to (word_entry s (hold_field c)) (2 * t.timers) (zeros 8) ≡ t.timing
   pub sets : filled_to (word_entry s (timer_set_field c t.timers)) (c.states * t.timers) (zeros 128) ≡ t.sets
 
-and_false : (a b : Bool) → b ≡ false → (a && b) ≡ false
-and_false true b e = e
-and_false false b e = refl
-
 not_old : (old : Bool) → (old ≡ true → ⊥) → old ≡ false
 not_old true other = absurd (other refl)
 not_old false other = refl
-
-positive : (n : ℕ) → (n ≡ 0 → ⊥) → 0 < n
-positive zero some = absurd (some refl)
-positive (suc n) some = omega arith
 
 abbrev pub counts_of : Table → Counts
 counts_of t = record { states = t.states; inputs = t.inputs; outputs = t.outputs; initial = t.initial }
@@ -105,12 +99,12 @@ module _ (old : Bool) (t : Table) (ok : WellFormedBy old t) (s : List ℕ) where
       let f₅ = words_written s _ t.hold (hold_field c) 0x05 q (rw holding.places few) (omega (arith, few)) there in
       let f₆ = words_written s _ t.delayed (delayed_field c) 0x06 q (rw delaying.places few) (omega (arith, few)) f₅.ends in
       let short : (k : ℕ) → k < q → hold_of t k < longest_hold + 1 = λ k h. let low = ok.hold k h in omega arith in
-      let p₅ : words_answer s (hold_row c) ≡ Passes = row_passes f₅ _ _ short in
+      let p₅ : words_answer s (hold_row c) ≡ Ok tt = row_passes f₅ _ _ short in
       let known : (k : ℕ) → k < q → delayed_of t k < 2 ^ t.inputs = λ k h. below_limit _ t.inputs (λ i. ok.delayed k i h) in
       let idle : (k : ℕ) → k < q → old ≡ false → number32_at s (hold_field c + 3 + 4 * k) ≡ 0 → number32_at s (delayed_field c + 3 + 4 * k) ≡ 0 =
       λ k h new empty. f₆.entries k h ∙ ok.not_idle new k h (sym (f₅.entries k h) ∙ empty)
       in
-      let p₆ : sets_answer old s (hold_field c) (delayed_field c) q (2 ^ t.inputs) ≡ Passes =
+      let p₆ : sets_answer old s (hold_field c) (delayed_field c) q (2 ^ t.inputs) ≡ Ok tt =
       all_pass s _ _ _ _ q f₆.whole (λ k h. set_passes old _ _ _ _ (rw (f₆.entries k h) (known k h)) (idle k h))
       in
       let end : length s - table_end c ≡ 0 = sym (length-drop (table_end c) s) ∙ ap length f₆.ends in
@@ -118,7 +112,7 @@ module _ (old : Bool) (t : Table) (ok : WellFormedBy old t) (s : List ℕ) where
       let kind : timed c s ≡ false = whole_tagged s (hold_field c) 0x05 (4 * q) f₅.whole in
       let no_row : t.states * 0 ≡ 0 = omega arith in
       record {
-        passes = rw (and_false (not old) (timed c s) kind) (sym (goes_on p₅ (goes_on p₆ (sym p₇))));
+        passes = rw (kind, and-false (not old)) (sym (goes_on p₅ (goes_on p₆ (sym p₇))));
         timers = rw kind (sym none);
         hold = rw (eq-eqb t.timers 0 none) (row_kept f₅ 32 few holding);
         delayed = rw (eq-eqb t.timers 0 none) (row_kept f₆ 32 few delaying);
@@ -152,13 +146,13 @@ module _ (old : Bool) (t : Table) (ok : WellFormedBy old t) (s : List ℕ) where
       let kind : timed c s ≡ true = whole_tagged s (hold_field c) 0x07 (8 * n) whole in
       let new : old ≡ false = not_old old (λ is. more (ok.no_timers is)) in
       let p₆ = holds (WrongTagOrLength (hold_field c)) (between 1 most_timers n (omega arith, four)) in
-      let p₇ : timers_row s (hold_field c) n (2 ^ t.states) ≡ Passes =
+      let p₇ : timers_row s (hold_field c) n (2 ^ t.states) ≡ Ok tt =
       all_pass s _ _ _ _ n whole (λ k h.
       timer_passes _ _ _ _
       (rw (f₇.entries (2 * k) (omega arith)) (ok.length k h))
       (rw (f₇.entries (2 * k + 1) (omega arith)) (below_limit (region_of t k) t.states (λ q. ok.region k q h))))
       in
-      let p₈ : words_answer s (timer_set_row c (timer_set_field c n) n) ≡ Passes = row_passes f₈ _ _ (set_below some) in
+      let p₈ : words_answer s (timer_set_row c (timer_set_field c n) n) ≡ Ok tt = row_passes f₈ _ _ (set_below some) in
       let last = timer_set_field c n + 3 + 4 * (t.states * n) in
       let end : length s - last ≡ 0 = sym (length-drop last s) ∙ ap length f₈.ends in
       let p₉ = holds (BytesAfter last) (le-leb (length s) last (omega arith)) in
@@ -181,4 +175,4 @@ module _ (old : Bool) (t : Table) (ok : WellFormedBy old t) (s : List ℕ) where
           else field 0x07 (words (take (2 * t.timers) t.timing)) ++ field 0x08 (words (take (t.states * t.timers) t.sets))) ++ [] →
           TimingWritten old t s c
       go true e is = holds_written (eqb-true t.timers 0 e) (is ∙ append_assoc (field 0x05 _) (field 0x06 _) [])
-      go false e is = timers_written (let some = eqb-false t.timers 0 e in positive t.timers some) (is ∙ append_assoc (field 0x07 _) (field 0x08 _) [])
+      go false e is = timers_written (pos_of_ne-zero (eqb-false t.timers 0 e)) (is ∙ append_assoc (field 0x07 _) (field 0x08 _) [])

@@ -1,5 +1,5 @@
 -- What holds of the journal check as a whole; proofs/Journals proves each.
-use Rattle.std.specs.Prelude.{◌≡◌, List, [], ◌∷◌, ◌++◌, ◌↔◌, true, ℕ, ◌≤◌, length}
+use Rattle.std.specs.Prelude.{◌≡◌, List, [], ◌∷◌, ◌++◌, ◌↔◌, true, ℕ, ◌≤◌, length, Ok}
 use Rattle.wire.specs.Encode.{Bytes}
 use Rattle.table.specs.declared.Table.{Table}
 use Rattle.table.specs.Table.{output_of, WellFormed}
@@ -11,7 +11,6 @@ use Rattle.machine.specs.Machine.{start}
 use Rattle.machine.specs.Run.{Runs, ticks_of, moves_from, most_left}
 use Rattle.machine.specs.Walk.{in_table}
 use Rattle.journal.specs.declared.Numbers.{Numbers}
-use Rattle.journal.specs.declared.Answer.TheVariants.{Accepted}
 use Rattle.records.specs.Form.{Form, journal}
 use Rattle.records.specs.Encode.{WrittenAs, Recovers}
 use Rattle.journal.specs.Check.{check_under, check_in}
@@ -42,10 +41,10 @@ pub record AcceptedRun (F : Form) (t : Table) (s : List ℕ) (n : Numbers) : Typ
 -- Under a table the bytes that are accepted are exactly the records, in this form, that its machine runs. The form says every value.
 abbrev pub AcceptsExactly : Form → Type 0
 AcceptsExactly F = F.valued ≡ true → Recovers F → (t : Table) (s : List ℕ) → Bytes s → (n : Numbers) →
-    (check_under F t s ≡ Accepted n) ↔ AcceptedRun F t s n
+    (check_under F t s ≡ Ok n) ↔ AcceptedRun F t s n
 
 -- On the bytes of a table: the check in this form accepts exactly those of a well-formed table with records that the table's machine runs.
 -- The check of a journal is this of the form `journal`, that of a short journal this of `short`.
 abbrev pub ChecksExactly : Form → Type 0
 ChecksExactly F = (table s : List ℕ) → Bytes table → Bytes s → (n : Numbers) →
-    (check_in F table s ≡ Accepted n) ↔ ((t : Table) × WellFormed t × (table ≡ table_bytes t) × AcceptedRun F t s n)
+    (check_in F table s ≡ Ok n) ↔ ((t : Table) × WellFormed t × (table ≡ table_bytes t) × AcceptedRun F t s n)

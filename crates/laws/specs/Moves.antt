@@ -1,16 +1,14 @@
 -- What the calculator for several moves tells, said without computing it; proofs/Moves and proofs/OneMove prove it.
-use Rattle.std.specs.Prelude.{◌≡◌, true, List, ◌↔◌, ℕ, zero, suc, ◌+◌, ◌*◌, ◌<◌, ◌≤◌, length, get_or, take}
+use Rattle.std.specs.Prelude.{◌≡◌, true, List, ◌↔◌, ℕ, zero, suc, ◌+◌, ◌*◌, ◌<◌, ◌≤◌, length, get_or, take, Ok}
 use Rattle.wire.specs.Reply.{Reply, gives, refuses}
 use Rattle.sets.specs.Sets.{member}
 use Rattle.table.specs.declared.Table.{Table}
 use Rattle.table.specs.Table.{next_of, WellFormed}
-use Rattle.table.specs.declared.Answer.TheVariants.{Passes}
 use Rattle.table.specs.Check.{table_answer, table_in}
 use Rattle.reaction.specs.Answer as reaction
 use Rattle.reaction.specs.Reaction.{weight, react_of}
 use Rattle.reaction.specs.Meaning.{Known, Pairs}
 use Rattle.moves.specs.declared.Reaction.{Reaction}
-use Rattle.moves.specs.declared.Answer.TheVariants.{Reacts}
 use Rattle.moves.specs.Answer as moves
 use Rattle.moves.specs.Moves.{moves_of, sums_after, path_after}
 use Rattle.laws.specs.Paths.{states_in, Follows, sum_of, Path, LargestFrom, Largest, Worst}
@@ -37,7 +35,7 @@ pub record Told (t : Table) (P A n : ℕ) (r : Reaction) (sums path : List ℕ) 
 
 abbrev pub MovesTold : Type 0
 MovesTold =
-    (table : List ℕ) (P A n : ℕ) (sums path : List ℕ) (r : Reaction) → moves_of table P A n (length sums) (length path) ≡ Reacts r →
+    (table : List ℕ) (P A n : ℕ) (sums path : List ℕ) (r : Reaction) → moves_of table P A n (length sums) (length path) ≡ Ok r →
     Told (table_in table) P A n r (sums_after table P A n sums (length path)) (path_after table P A n (length sums) path)
 
 -- ---- One move
@@ -49,5 +47,5 @@ without_length (refuses number place) = refuses number place
 -- With room for a row of sums, one for each state of a table that passes, and for one byte, what is replied for one move is, but for the
 -- length of the path, what the calculator of one move replies: the same time and target, or a refusal with the same number and place.
 abbrev pub OneMove : Type 0
-OneMove = (table : List ℕ) (P A sums path : ℕ) → (table_answer table ≡ Passes → (table_in table).states ≤ sums) → 1 ≤ path →
+OneMove = (table : List ℕ) (P A sums path : ℕ) → (table_answer table ≡ Ok tt → (table_in table).states ≤ sums) → 1 ≤ path →
     without_length (moves.reply_of (moves_of table P A 1 sums path)) ≡ reaction.reply_of (react_of table P A)

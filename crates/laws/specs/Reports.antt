@@ -1,7 +1,6 @@
 -- What holds of the report of a season; proofs/Reports proves each.
-use Rattle.std.specs.Prelude.{◌≡◌, List, [], ◌∷◌, ◌++◌, map, ℕ, ◌+◌, ◌*◌, ◌<◌, length, get_or}
+use Rattle.std.specs.Prelude.{◌≡◌, List, [], ◌∷◌, ◌++◌, map, ℕ, ◌+◌, ◌*◌, ◌<◌, length, get_or, Ok, Err}
 use Rattle.wire.specs.Encode.{Bytes}
-use Rattle.table.specs.declared.Answer.TheVariants.{Passes}
 use Rattle.table.specs.declared.Table.{Table}
 use Rattle.table.specs.Entries.{total}
 use Rattle.table.specs.Check.{table_answer, table_in}
@@ -9,18 +8,17 @@ use Rattle.table.specs.Under.{under_table}
 use Rattle.records.specs.Form.{journal}
 use Rattle.machine.specs.Walk.{RunOverBytes, ran, too_long, refused, run_over}
 use Rattle.journal.specs.declared.Numbers.{Numbers}
-use Rattle.journal.specs.declared.Answer.{Answer}
-use Rattle.journal.specs.declared.Answer.TheVariants.{Accepted, TableRefused, TooLong, Refused}
+use Rattle.journal.specs.Answer.{JournalAnswer}
 use Rattle.journal.specs.Check.{numbers_of, check_of}
 use Rattle.tally.specs.declared.Tally.{Tally}
 use Rattle.tally.specs.Tally.{tally_of}
-use Rattle.report.specs.declared.Answer.TheVariants.{Taken, Full}
+use Rattle.report.specs.declared.Refusal.TheVariants.{Full}
 use Rattle.report.specs.declared.Report.{Report}
 use Rattle.report.specs.Report.{begin_of, add_of}
 
 -- A refused journal leaves the report as it was.
 abbrev pub RefusedUnchanged : Type 0
-RefusedUnchanged = (x : Report) (s : List ℕ) → ((add_of x s).answer ≡ Taken → ⊥) → (add_of x s).report ≡ x
+RefusedUnchanged = (x : Report) (s : List ℕ) → ((add_of x s).answer ≡ Ok tt → ⊥) → (add_of x s).report ≡ x
 
 -- ---- A season
 
@@ -32,7 +30,7 @@ added_all x (s ∷ ss) = added_all (add_of x s).report ss
 -- On the way no 35 comes.
 unfoldable pub NoneFull : Report → List (List ℕ) → Type 0
 NoneFull x [] = Unit
-NoneFull x (s ∷ ss) = ((add_of x s).answer ≡ Full → ⊥) × NoneFull (add_of x s).report ss
+NoneFull x (s ∷ ss) = ((add_of x s).answer ≡ Err Full → ⊥) × NoneFull (add_of x s).report ss
 
 -- The same journals in another order.
 pub data Permuted : List (List ℕ) → List (List ℕ) → Type 0 where
@@ -62,11 +60,9 @@ unfoldable pub known_journal_in : (table s : List ℕ) → List KnownJournal
 known_journal_in table s = under_table (λ answer. []) (λ t. known_of t (run_over journal t s)) table
 
 -- They are the accepted ones, with the numbers of the check.
-abbrev pub numbers_in : Answer → List Numbers
-numbers_in (Accepted n) = n ∷ []
-numbers_in (TableRefused answer) = []
-numbers_in TooLong = []
-numbers_in (Refused refusal place) = []
+abbrev pub numbers_in : JournalAnswer → List Numbers
+numbers_in (Ok n) = n ∷ []
+numbers_in (Err refusal) = []
 
 abbrev pub KnownAccepted : Type 0
 KnownAccepted = (table s : List ℕ) → map (λ (j : KnownJournal). j.numbers) (known_journal_in table s) ≡ numbers_in (check_of table s)
@@ -101,5 +97,5 @@ AllBytes (s ∷ ss) = Bytes s × AllBytes ss
 
 -- Begun with a table that passes, it tells all that, whatever was added, while no 35 comes: no sum of 64 bits wraps.
 abbrev pub TellsAll : Type 0
-TellsAll = (table : List ℕ) → table_answer table ≡ Passes → (ss : List (List ℕ)) → AllBytes ss → NoneFull (begin_of table).report ss →
+TellsAll = (table : List ℕ) → table_answer table ≡ Ok tt → (ss : List (List ℕ)) → AllBytes ss → NoneFull (begin_of table).report ss →
     Tells (table_in table) (added_all (begin_of table).report ss) (accepted table ss)

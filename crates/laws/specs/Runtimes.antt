@@ -1,21 +1,21 @@
 -- What holds of the runtime as a whole; proofs/Runtimes proves each.
-use Rattle.std.specs.Prelude.{◌≡◌, List, map, ◌↔◌, ℕ, ◌+◌, ◌*◌, ◌≤◌, length, take}
+use Rattle.std.specs.Prelude.{◌≡◌, List, map, ◌↔◌, ℕ, ◌+◌, ◌*◌, ◌≤◌, length, take, Ok, Err}
 use Rattle.wire.specs.Encode.{Bytes}
 use Rattle.wire.specs.Made.{buffer_in}
 use Rattle.table.specs.declared.Table.{Table}
 use Rattle.table.specs.Table.{WellFormed}
-use Rattle.table.specs.declared.Answer.TheVariants.{Passes}
 use Rattle.table.specs.Check.{table_answer, table_in}
 use Rattle.table.specs.Encode.{table_bytes}
 use Rattle.records.specs.declared.Record.{Record}
 use Rattle.records.specs.declared.Refusal.TheVariants.{Differs}
+use Rattle.records.specs.Refusal.{stopped}
 use Rattle.journal.specs.declared.Numbers.{Numbers}
-use Rattle.journal.specs.declared.Answer.TheVariants.{Accepted}
 use Rattle.journal.specs.Check.{check_under, check_of}
 use Rattle.records.specs.Form as form
 use Rattle.records.specs.Form.{longest_stimulus}
 use Rattle.records.specs.Encode.{encode, kept, WrittenAs}
-use Rattle.runtime.specs.declared.Answer.TheVariants.{Written, Refused}
+use Rattle.writing.specs.declared.Refusal.TheVariants as why
+use Rattle.runtime.specs.declared.Refusal.TheVariants.{Journal}
 use Rattle.runtime.specs.Run.{journal_made, made_under, run_of, answer_of}
 use Rattle.machine.specs.Run.{ticks_of}
 use Rattle.machine.specs.Walk.{in_table}
@@ -47,7 +47,7 @@ KeepsTheStimulus = (t : Table) → WellFormed t → (s : List ℕ) → Bytes s �
 abbrev pub WritesAccepted : Type 0
 WritesAccepted = (t : Table) → WellFormed t → (s : List ℕ) (input : ℕ) (es : List Record) (end : ℕ) → StimulusOf t s input es end →
     (j : List ℕ) → made_under t s ≡ journal_made j →
-    (n : Numbers) × (n.end ≡ end) × (n.ticks ≡ ticks_of es) × (check_under form.journal t j ≡ Accepted n)
+    (n : Numbers) × (n.end ≡ end) × (n.ticks ≡ ticks_of es) × (check_under form.journal t j ≡ Ok n)
 
 -- The bytes j are an accepted journal, and s is its stimulus.
 pub record AcceptedFor (t : Table) (s j : List ℕ) : Type 0 where
@@ -56,7 +56,7 @@ pub record AcceptedFor (t : Table) (s j : List ℕ) : Type 0 where
   pub end : ℕ
   pub for : JournalFor t s j input records end
   pub numbers : Numbers
-  pub accepted : check_under form.journal t j ≡ Accepted numbers
+  pub accepted : check_under form.journal t j ≡ Ok numbers
   pub end_is : numbers.end ≡ end
 
 -- There is no other accepted journal with that stimulus.
@@ -74,14 +74,14 @@ pub record Writable (t : Table) (s : List ℕ) (room size : ℕ) : Type 0 where
 -- The runtime succeeds exactly then.
 abbrev pub SucceedsExactly : Type 0
 SucceedsExactly = (t : Table) → WellFormed t → (s : List ℕ) → Bytes s → (room size : ℕ) →
-    (answer_of (made_under t s) room ≡ Written size) ↔ Writable t s room size
+    (answer_of (made_under t s) room ≡ Ok size) ↔ Writable t s room size
 
 -- ---- The entry
 
 -- It succeeds exactly on the bytes of a well-formed table under which the runtime does.
 abbrev pub RunsExactly : Type 0
 RunsExactly = (table s : List ℕ) → Bytes table → Bytes s → (room size : ℕ) →
-    (answer_of (run_of table s) room ≡ Written size) ↔ ((t : Table) × WellFormed t × (table ≡ table_bytes t) × Writable t s room size)
+    (answer_of (run_of table s) room ≡ Ok size) ↔ ((t : Table) × WellFormed t × (table ≡ table_bytes t) × Writable t s room size)
 
 -- The bytes j are the journal for the stimulus s: the journal check accepts them on the same table bytes, with the stimulus's T and
 -- number of ticks, and no other accepted journal has that stimulus.
@@ -94,19 +94,19 @@ pub record OnlyJournal (table s j : List ℕ) : Type 0 where
   pub end : ℕ
   pub for : JournalFor under s j input records end
   pub numbers : Numbers
-  pub accepted : check_of table j ≡ Accepted numbers
+  pub accepted : check_of table j ≡ Ok numbers
   pub end_is : numbers.end ≡ end
   pub ticks_are : numbers.ticks ≡ ticks_of (map event_for records)
   pub only : (j' : List ℕ) → AcceptedFor under s j' → j' ≡ j
 
 -- On success just that stands at the start of the buffer.
 abbrev pub WritesTheJournal : Type 0
-WritesTheJournal = (table s before : List ℕ) → Bytes table → Bytes s → (size : ℕ) → answer_of (run_of table s) (length before) ≡ Written size →
+WritesTheJournal = (table s before : List ℕ) → Bytes table → Bytes s → (size : ℕ) → answer_of (run_of table s) (length before) ≡ Ok size →
     OnlyJournal table s (take size (buffer_in (run_of table s) before))
 
 -- It never gives 28.
 abbrev pub NeverDiffers : Type 0
-NeverDiffers = (table s : List ℕ) (room place : ℕ) → answer_of (run_of table s) room ≡ Refused Differs place → ⊥
+NeverDiffers = (table s : List ℕ) (room place : ℕ) → answer_of (run_of table s) room ≡ Err (Journal (why.Record (stopped Differs place))) → ⊥
 
 -- ---- How long the journal is
 
@@ -125,5 +125,5 @@ NeverTooLong = (table s j : List ℕ) → run_of table s ≡ journal_made j → 
 
 -- and under every table that passes one is that long.
 abbrev pub LongestIsMade : Type 0
-LongestIsMade = (table : List ℕ) → table_answer table ≡ Passes →
+LongestIsMade = (table : List ℕ) → table_answer table ≡ Ok tt →
     (s : List ℕ) × (j : List ℕ) × Bytes s × (run_of table s ≡ journal_made j) × (length j ≡ longest_made)

@@ -5,8 +5,7 @@ use Prim.Native.String as string
 use Prim.Native.String.{String}
 use Rattle.wire.specs.Choice.{◌<?◌, ◌=?◌}
 use Rattle.wire.specs.Reply.{Reply, number_in, place_in, values_in}
-use Rattle.journal.specs.declared.Answer.{Answer}
-use Rattle.journal.specs.Answer.{reply_of}
+use Rattle.journal.specs.Answer.{JournalAnswer, reply_of}
 
 -- ---- Text and numbers
 
@@ -58,7 +57,7 @@ line_for reply =
     if number_in reply =? 0 then line_with accepted_names (values_in reply)
     else line_with refused_names (number_in reply ∷ place_in reply ∷ [])
 
-abbrev pub line_of : Answer → List ℕ
+abbrev pub line_of : JournalAnswer → List ℕ
 line_of a = line_for (reply_of a)
 
 -- ---- Where it is written

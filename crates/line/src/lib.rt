@@ -7,7 +7,11 @@ ghost use Rattle.io.specs.Counts.{IsPrefixLen};
 ghost use Rattle.journal.specs.Answer.{listed};
 ghost use Rattle.line.specs.Line.{Puts, decimal, named, line_with, length_names, last_names, accepted_names, refused_names, line_of};
 
-use journal::{Answer, Numbers};
+use journal::{Numbers, Refusal};
+use wire::Refused;
+
+// Buffer and place stand beside each other, here and in `sheet`. No plainer in one struct: each method, and each function over it, would have
+// to promise that the buffer is still the same and as long, which the arrays' types say of themselves.
 
 // Writes the text from `at` on, and gives back where it ends.
 pub fn put_text(out: &mut [u8], at: usize, text: &[u8]) -> usize
@@ -36,9 +40,9 @@ fn put_length(out: &mut [u8; 256], n: Numbers) -> usize
     ensures puts { Puts (named length_names (n.end ∷ n.ticks ∷ n.moves ∷ [])) out.old 0 out.new result }
     ensures short { result ≤ 88 }
 {
-    let at = put_number(out, 0, b"accepted end=", n.end as u64);
-    let at = put_number(out, at, b" cycles=", n.ticks as u64);
-    put_number(out, at, b" moves=", n.moves as u64)
+    let at = put_number(out, 0, b"accepted end=", u64::from(n.end));
+    let at = put_number(out, at, b" cycles=", u64::from(n.ticks));
+    put_number(out, at, b" moves=", u64::from(n.moves))
 }
 
 // Where it ended.
@@ -47,8 +51,8 @@ fn put_last(out: &mut [u8; 256], at: usize, n: Numbers) -> usize
     ensures puts { Puts (named last_names (n.state ∷ n.output ∷ [])) out.old at out.new result }
     ensures short { result ≤ 143 }
 {
-    let at = put_number(out, at, b" state=", n.state as u64);
-    put_number(out, at, b" output=", n.output as u64)
+    let at = put_number(out, at, b" state=", u64::from(n.state));
+    put_number(out, at, b" output=", u64::from(n.output))
 }
 
 // Then the most ticks left at a test, and the longest cycle.
@@ -57,31 +61,26 @@ fn put_accepted(out: &mut [u8; 256], n: Numbers) -> usize
 {
     let at = put_length(out, n);
     let at = put_last(out, at, n);
-    let at = put_number(out, at, b" left=", n.left as u64);
-    let at = put_number(out, at, b" longest=", n.longest as u64);
+    let at = put_number(out, at, b" left=", u64::from(n.left));
+    let at = put_number(out, at, b" longest=", u64::from(n.longest));
     put_text(out, at, b"\n")
 }
 
 fn put_refused(out: &mut [u8; 256], number: u32, place: usize) -> usize
     ensures { Puts (line_with refused_names (number ∷ place ∷ [])) out.old 0 out.new result }
 {
-    let at = put_number(out, 0, b"refused ", number as u64);
+    let at = put_number(out, 0, b"refused ", u64::from(number));
     let at = put_number(out, at, b" at ", place as u64);
     put_text(out, at, b"\n")
 }
 
 // The line at the start of the buffer, and its length. Bytes of the buffer past it are unchanged.
-pub fn write(answer: Answer, out: &mut [u8; 256]) -> usize
+pub fn write(answer: Result<Numbers, Refusal>, out: &mut [u8; 256]) -> usize
     ensures puts { Puts (line_of answer) out.old 0 out.new result }
     ensures counts { IsPrefixLen result out.new }
 {
-    let number = answer.number();
-    if number != 0 {
-        return put_refused(out, number, answer.place());
+    match answer {
+        Ok(n) => put_accepted(out, n),
+        Err(refusal) => put_refused(out, refusal.number(), refusal.place()),
     }
-    // No journal check gives a success without numbers. Its line would have none.
-    let Answer::Accepted(n) = answer else {
-        return put_text(out, 0, b"\n");
-    };
-    put_accepted(out, n)
 }

@@ -1,19 +1,55 @@
 // The memory: read into a value and written from one, once each; and whether its numbers are those of a live run under the table.
 ghost use Rattle.std.specs.Prelude.{◌≡◌, ◌≤◌, length, get_or};
 ghost use Rattle.table.specs.Entries.{filled_to};
-ghost use Rattle.table.specs.declared.Answer.TheVariants.{Passes};
-ghost use Rattle.table.specs.Check.{table_answer, table_in};
-ghost use Rattle.live.specs.Memory.{progress_in, kept_in, first_above, first_out};
+ghost use Rattle.table.specs.Check.{table_in};
+ghost use Rattle.live.specs.Memory.{progress_in, kept_in, in_memory, first_above, first_out};
 
-use journal::Progress;
 use machine::{Machine, Regions};
 use records::LATEST;
-use rows::{bound_of, states_of};
-use table::{LONGEST_HOLD, inputs_in};
+use rows::asked::Rows;
+use rows::states_of;
+use table::LONGEST_HOLD;
+use table::checked::Checked;
+use turns::Progress;
 
-// How many numbers it has.
+// How many numbers it has. The host lends a slice, which may have more: so its length is a clause where it is read or written.
 pub const KEPT: usize = 17;
 
+// How far the run is: the first number of the memory. A number above 2 is turned down before it is asked for.
+#[derive(Clone, Copy, Debug, PartialEq, Eq)]
+pub enum Stage {
+    Fresh,
+    Running,
+    Ended,
+}
+
+impl From<Stage> for u32 {
+    ghost use Rattle.std.specs.Prelude.{◌≡◌};
+    ghost use Rattle.live.specs.Memory.{stage_number};
+
+    ghost from_gives = { λ stage number. number ≡ stage_number stage };
+
+    fn from(stage: Stage) -> u32 {
+        stage as u32
+    }
+}
+
+impl From<u32> for Stage {
+    ghost use Rattle.std.specs.Prelude.{◌≡◌};
+    ghost use Rattle.live.specs.Memory.{stage_of};
+
+    ghost from_gives = { λ number stage. stage ≡ stage_of number };
+
+    fn from(number: u32) -> Stage {
+        match number {
+            0 => Stage::Fresh,
+            1 => Stage::Running,
+            _ => Stage::Ended,
+        }
+    }
+}
+
+// A function, as `keep`, and no `From`: that may not be written here, where neither `Progress` nor a slice is declared.
 pub fn progress_in(memory: &[u32]) -> Progress
     requires { 17 ≤ length memory.now }
     ensures { result ≡ progress_in memory.now }
@@ -42,15 +78,13 @@ pub fn progress_in(memory: &[u32]) -> Progress
     }
 }
 
-// The numbers, at the start of the memory.
+// The numbers, at the start of the memory. No `copies::copy`: that is for bytes, and `live` does not stand on it (crates.txt).
 fn put(numbers: &[u32; 17], memory: &mut [u32])
     requires { 17 ≤ length memory.old }
     ensures { memory.new ≡ filled_to (λ k. get_or numbers.now k 0) 17 memory.old }
 {
-    let mut k = 0;
-    while k < KEPT {
+    for k in 0..KEPT {
         memory[k] = numbers[k];
-        k += 1;
     }
 }
 
@@ -82,30 +116,29 @@ pub fn keep(memory: &mut [u32], stage: u32, p: Progress)
     put(&numbers, memory);
 }
 
-// The first number that is more than it may be, by its index; 17 if there is none.
-fn first_above(most: &[u32; 17], memory: &[u32]) -> usize
+// The first number that is more than it may be, by its index.
+#[tactic(auto, using(crate::proofs::Numbers::none_looked, crate::proofs::Numbers::above, crate::proofs::Numbers::not_above, crate::proofs::Numbers::all_looked))]
+fn first_above(most: &[u32; 17], memory: &[u32]) -> Option<usize>
     requires { 17 ≤ length memory.now }
-    ensures { result ≡ first_above most.now memory.now 17 0 }
+    ensures { result ≡ in_memory (first_above most.now memory.now 17 0) }
 {
-    let mut at = 0;
-    while at < KEPT {
+    for at in 0..KEPT {
         if most[at] < memory[at] {
-            return at;
+            return Some(at);
         }
-        at += 1;
     }
-    at
+    None
 }
 
-pub fn first_out(table: &[u8], memory: &[u32]) -> usize
-    requires { (table_answer table.now ≡ Passes) × (17 ≤ length memory.now) }
-    ensures { result ≡ first_out (table_in table.now) memory.now }
+pub fn first_out(table: &Checked<'_>, memory: &[u32]) -> Option<usize>
+    requires { 17 ≤ length memory.now }
+    ensures { result ≡ in_memory (first_out (table_in table.now.bytes.now) memory.now) }
 {
-    if memory[0] == 0 {
-        return KEPT;
+    if let Stage::Fresh = Stage::from(memory[0]) {
+        return None;
     }
-    let input = inputs_in(table) - 1;
-    let state = states_of(table) - 1;
+    let input = table.inputs() - 1;
+    let state = states_of(table.bytes) - 1;
     let time = memory[8];
     let most = [
         2,
@@ -117,7 +150,7 @@ pub fn first_out(table: &[u8], memory: &[u32]) -> usize
         time,
         time,
         LATEST,
-        bound_of(table),
+        table.bound(),
         time,
         time,
         time,

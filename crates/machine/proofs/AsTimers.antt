@@ -9,7 +9,7 @@ use native.Mathlib.Omega.{arith}
 use borrow.Author.Tests.{ltb-true, ltb-false, eq-eqb, ne_eqb, eqb-true, eqb-false}
 use lib.Arith.{digits_lt, digits_div, digits_mod}
 use lib.ListN.{length, get_or}
-use Rattle.std.specs.Prelude.{if◌then◌else◌}
+use Rattle.std.specs.Prelude.{if◌then◌else◌, Ok, Err}
 use Rattle.wire.specs.Choice.{◌<?◌, ◌=?◌}
 use Rattle.wire.proofs.Choice.{never}
 use Rattle.sets.proofs.Bits.{none_in_empty, single_is}
@@ -22,8 +22,7 @@ use Rattle.records.specs.declared.Record.{Record}
 use Rattle.records.specs.declared.Record.TheVariants.{Change, Poll, Test, Tick, End}
 use Rattle.records.specs.declared.Refusal.{Refusal}
 use Rattle.records.specs.declared.Refusal.TheVariants.{Unsettled, Differs}
-use Rattle.records.specs.declared.Opening.{Opening}
-use Rattle.records.specs.declared.Opening.TheVariants as opening
+use Rattle.records.specs.Reading.{Opening}
 use Rattle.records.specs.Form.{Form}
 use Rattle.records.specs.Record.{time_of}
 use Rattle.records.specs.Reading.{Items, item, done, broken, opening_of, items_of}
@@ -31,10 +30,7 @@ use Rattle.machine.specs.declared.Regions.{Regions}
 use Rattle.machine.specs.declared.Machine.{Machine}
 use Rattle.machine.specs.declared.Rule.{Rule}
 use Rattle.machine.specs.declared.Rule.TheVariants.{Running, Passed, NoHold}
-use Rattle.machine.specs.declared.Gate.{Gate}
-use Rattle.machine.specs.declared.Gate.TheVariants.{Open, Shut}
-use Rattle.machine.specs.declared.Step.{Step}
-use Rattle.machine.specs.declared.Step.TheVariants.{Next, Refused}
+use Rattle.machine.specs.Step.{Gate, Step}
 use Rattle.machine.specs.Verdict.{Watch, verdict_by, rule_of, left_of, stronger, strongest, largest_over}
 use Rattle.machine.specs.Machine.{start, kind_of, settled, entry_into, state_watch, timer_watch, timer_watches, verdict, left, state_after, agrees}
 use Rattle.machine.specs.Machine.{last_change, regions_after, after, gate, through, step, entered}
@@ -133,8 +129,8 @@ module _ (polled time : ℕ) (w : Watch) where
 -- ---- Steps and walks with the same outcome
 
 data SameStep (t : Table) : Step → Step → Type 0 where
-  both_next : {m' m : Machine} → Alike t m' m → SameStep t (Next m') (Next m)
-  both_refuse : {refusal : Refusal} → SameStep t (Refused refusal) (Refused refusal)
+  both_next : {m' m : Machine} → Alike t m' m → SameStep t (Ok m') (Ok m)
+  both_refuse : {refusal : Refusal} → SameStep t (Err refusal) (Err refusal)
 
 data SameWalk (t : Table) : Walk → Walk → Type 0 where
   both_ended : {taken : List Record} {last' last : Machine} → Alike t last' last → SameWalk t (ended taken last') (ended taken last)
@@ -348,15 +344,15 @@ module _ (t : Table) (good : WellFormed t) (few : FewHolds t) where
       where
         open_gate : (a b : Bool) →
             SameStep t
-            (if not a then Refused Unsettled else if not b then Refused Differs else Next (after t' m' r))
-            (if not a then Refused Unsettled else if not b then Refused Differs else Next (after t m r))
+            (if not a then Err Unsettled else if not b then Err Differs else Ok (after t' m' r))
+            (if not a then Err Unsettled else if not b then Err Differs else Ok (after t m r))
         open_gate true true = both_next (after_alike r)
         open_gate true false = both_refuse
         open_gate false b = both_refuse
 
         go : (g : Gate) → SameStep t (through g t' m' r) (through g t m r)
-        go (Shut refusal) = both_refuse
-        go Open = rw (settled_alike r, agrees_alike r) (open_gate (settled m r) (agrees t m r))
+        go (Err refusal) = both_refuse
+        go (Ok passed) = rw (settled_alike r, agrees_alike r) (open_gate (settled m r) (agrees t m r))
 
     completed_alike : (F : Form) (r : Record) → completed F t' m' r ≡ completed F t m r
     completed_alike F r = ap (λ x. if F.valued then r else x) (filled_alike r)
@@ -391,8 +387,8 @@ module _ (t : Table) (good : WellFormed t) (few : FewHolds t) where
   run_same F s = sized (F.most <? length s)
     where
       opening_same : (o : Opening) → SameOverBytes t (run_opened F t' s o) (run_opened F t s o)
-      opening_same (opening.Refused refusal) = both_refused
-      opening_same (opening.Input input) =
+      opening_same (Err refusal) = both_refused
+      opening_same (Ok input) =
           ran_same t input (walk_same F (items_of F (in_table F t) s) (start t.initial input) (start t.initial input) (start_alike input))
 
       sized : (b : Bool) →

@@ -6,13 +6,12 @@ use Prim.Native.Nat.{ℕ, ◌+◌, ◌≤◌, max}
 use native.Mathlib.Omega.{arith}
 use borrow.Author.Tests.{eqb-true}
 use lib.ListN.{length}
-use Rattle.std.specs.Prelude.{if◌then◌else◌}
+use Rattle.std.specs.Prelude.{if◌then◌else◌, Ok}
 use Rattle.wire.specs.Choice.{◌=?◌}
 use Rattle.table.specs.declared.Table.{Table}
 use Rattle.records.specs.declared.Record.{Record}
 use Rattle.records.specs.declared.Record.TheVariants.{Change, Poll, Test, Tick, End}
 use Rattle.machine.specs.declared.Machine.{Machine}
-use Rattle.machine.specs.declared.Step.TheVariants.{Next}
 use Rattle.machine.specs.Machine.{left, state_after, after, step}
 use Rattle.records.specs.Record.{is_test}
 use Rattle.machine.specs.Most.{number_of_record}
@@ -28,7 +27,7 @@ state_named t m (Test time verdict) h = refl
 state_named t m (Tick time state) h = sym (eqb-true state (state_after t m) h.agreed)
 state_named t m (End time) h = refl
 
-pub state_from_lem : (t : Table) (m : Machine) (r : Record) (m' : Machine) → step t m r ≡ Next m' → m'.state ≡ state_from m.state r
+pub state_from_lem : (t : Table) (m : Machine) (r : Record) (m' : Machine) → step t m r ≡ Ok m' → m'.state ≡ state_from m.state r
 state_from_lem t m r m' e = let s = step_taken t m r m' e in ap (λ x. x.state) s.1 ∙ state_named t m r s.0
 
 pub ticks_more : (rs : List Record) (r : Record) → ticks_of (rs ++ r ∷ []) ≡ ticks_of rs + ticks r

@@ -1,5 +1,6 @@
 pub mod Verdict
 pub mod Becomes
+pub mod Step
 pub mod Machine
 pub mod Most
 pub mod Run

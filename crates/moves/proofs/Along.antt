@@ -13,29 +13,46 @@ use Rattle.wire.specs.Choice.{◌=?◌}
 use Rattle.wire.specs.Encode.{placed_in}
 use Rattle.wire.proofs.Placed.{placed_after}
 use Rattle.sets.specs.Sets.{member, largest}
-use Rattle.table.specs.Table.{next_of}
+use Rattle.table.specs.declared.Table.{Table}
+use Rattle.table.specs.Table.{WellFormed, next_of}
 use Rattle.table.specs.Check.{table_in}
 use Rattle.table.proofs.WellFormed.{well_formed}
-use Rattle.moves.specs.declared.rounds.Way.{Way}
+use Rattle.reaction.specs.declared.question.Question.{Question}
 use Rattle.moves.specs.Moves.{worst}
-use Rattle.moves.specs.Walks.{WayIn, WorstMember, ahead_stored, path_along, path_after_input, whole_path_along}
+use Rattle.moves.specs.Walks.{Way, way_of, WorstMember, ahead_stored, path_along, path_after_input, whole_path_along}
 use Rattle.moves.proofs.Worsts.{is_largest, is_worst}
 
-module _ {s : List ℕ} {way : Way} (along : WayIn s way) where
-  pub few_states : way.states ≤ 32
-  few_states = omega (arith, along.states, (well_formed s along.rows.passes).states)
+-- What a path of a question goes along.
+module _ (question : Question) where
+  abbrev pub table_of : Table
+  table_of = table_in question.held.table.bytes.now
 
-  pub few_inputs : way.width ≤ 32
-  few_inputs = omega (arith, along.rows.wide, (well_formed s along.rows.passes).inputs)
+  good : WellFormed table_of
+  good = well_formed _ question.held.table.passes
+
+  pub few_states : question.held.layout.states ≤ 32
+  few_states = omega (arith, question.held.laid.states, good.states)
+
+  pub few_inputs : question.held.layout.inputs ≤ 32
+  few_inputs = omega (arith, question.held.laid.inputs, good.inputs)
+
+  -- A state is one of the table's, and an input one of the question's.
+  pub real : (q : ℕ) → q < question.held.layout.states → q < table_of.states
+  real q low = omega (arith, question.held.laid.states)
+
+  pub known_inputs : (a : ℕ) → member question.inputs a ≡ true → a < question.held.layout.inputs
+  known_inputs a m = omega (arith, question.inputs_known a m, question.held.laid.inputs)
 
   -- A next state is one of the way's.
-  pub goes_to : (q a : ℕ) → q < way.states → member way.inputs a ≡ true → next_of (table_in s) q a < way.states
-  goes_to q a low m =
-      omega (arith, along.states, (well_formed s along.rows.passes).next q a (omega (arith, along.states)) (omega (arith, along.inputs a m, along.rows.wide)))
+  pub goes_to : (q a : ℕ) → q < question.held.layout.states → member question.inputs a ≡ true → next_of table_of q a < question.held.layout.states
+  goes_to q a low m = omega (arith, question.held.laid.states, good.next q a (real q low) (question.inputs_known a m))
 
-module _ {s : List ℕ} {way : Way} (along : WayIn s way) (sums : List ℕ) (q : ℕ) where
+module _ (question : Question) (sums : List ℕ) (q : ℕ) where
+  abbrev way : Way
+  way = way_of question
+
   abbrev next : ℕ → ℕ → ℕ
-  next = next_of (table_in s)
+  next = next_of (table_of question)
 
   pub none_left : (left : ℕ) → left ≡ 0 → q ∷ [] ≡ path_along next way sums left q
   unfolding path_along
@@ -52,12 +69,12 @@ module _ {s : List ℕ} {way : Way} (along : WayIn s way) (sums : List ℕ) (q :
     step = let e : left ≡ suc (left - 1) = omega arith in ap (λ k. path_along next way sums k q) e
 
     pub none_ahead : sum ≡ 0 → q ∷ [] ≡ path_along next way sums left q
-    none_ahead e = sym (step ∙ rw (eq-eqb (largest way.width (member way.inputs) ahead) 0 (sym (is_largest along.inputs found) ∙ e)))
+    none_ahead e = sym (step ∙ rw (eq-eqb (largest way.width (member way.inputs) ahead) 0 (sym (is_largest (known_inputs question) found) ∙ e)))
 
     pub goes_on : (sum ≡ 0 → ⊥) → q ∷ path_after_input next way sums left q at ≡ path_along next way sums left q
     goes_on other =
-        let l = is_largest along.inputs found in
-        let w = is_worst along.inputs found (omega arith) in
+        let l = is_largest (known_inputs question) found in
+        let w = is_worst (known_inputs question) found (omega arith) in
         sym (step ∙ rw (ne_eqb (largest way.width (member way.inputs) ahead) 0 (λ z. other (l ∙ z)), ← w))
 
 pub path_length : (next : ℕ → ℕ → ℕ) (way : Way) (sums : List ℕ) (left q : ℕ) → length (path_along next way sums left q) ≤ left + left + 1

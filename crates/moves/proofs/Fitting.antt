@@ -7,10 +7,9 @@ use Prim.Native.Nat.{ℕ, ◌-◌, ◌*◌, ◌^◌, ◌≤◌}
 use native.Mathlib.Nat.{eq-zero-or-pos}
 use native.Mathlib.Omega.{arith}
 use borrow.Author.Tests.{ltb-false}
-use Rattle.std.specs.Prelude.{if◌then◌else◌}
+use Rattle.std.specs.Prelude.{Ok, Err, if◌then◌else◌}
 use Rattle.wire.specs.Choice.{◌<?◌, ◌or◌}
 use Rattle.wire.proofs.Choice.{never}
-use Rattle.table.specs.declared.Answer.TheVariants as table
 use Rattle.table.specs.declared.Table.{Table}
 use Rattle.table.specs.Table.{WellFormed}
 use Rattle.table.specs.Check.{table_answer, table_in}
@@ -21,7 +20,7 @@ use Rattle.table.proofs.WellFormed.{well_formed}
 use Rattle.reaction.specs.Reaction.{first_leaving, for_holds}
 use Rattle.reaction.proofs.Entry.{has_holds, has_timers}
 use Rattle.reaction.proofs.Meaning.{AllExist, known}
-use Rattle.moves.specs.declared.Judged.TheVariants.{Passes, TableRefused, HasTimers, UnknownState, UnknownInput, TooManyMoves, LeavesStates, NoRoom}
+use Rattle.moves.specs.declared.Refusal.TheVariants as why
 use Rattle.moves.specs.Answer.{judged_passes?}
 use Rattle.moves.specs.Moves.{judge, judge_of}
 
@@ -42,12 +41,12 @@ module _ (t : Table) (table : WellFormed t) (none : t.timers ≡ 0) (P A n sums 
       go : (a : Bool) → (P <? 2 ^ t.states) ≡ a → (b : Bool) → (A <? 2 ^ t.inputs) ≡ b → (c : Bool) → (32 <? n) ≡ c →
           (d : Bool) → (first_leaving t P A <? t.states * t.inputs) ≡ d → (e : Bool) → (sums <? n * t.states) ≡ e → (f : Bool) → (path <? 2 * n - 1) ≡ f →
           judged_passes?
-          (if not a then UnknownState
-          else if not b then UnknownInput
-          else if c then TooManyMoves
-          else if d then LeavesStates (first_leaving t P A)
-          else if e or f then NoRoom
-          else Passes) ≡ true → Fits t P A n sums path
+          (if not a then Err why.UnknownState
+          else if not b then Err why.UnknownInput
+          else if c then Err why.TooManyMoves
+          else if d then Err (why.LeavesStates (first_leaving t P A))
+          else if e or f then Err why.NoRoom
+          else Ok tt) ≡ true → Fits t P A n sums path
       go false _ b _ c _ d _ e _ f _ p = never p
       go true _ false _ c _ d _ e _ f _ p = never p
       go true _ true _ true _ d _ e _ f _ p = never p
@@ -64,9 +63,9 @@ module _ (t : Table) (table : WellFormed t) (none : t.timers ≡ 0) (P A n sums 
       }
 
 module _ (s : List ℕ) (P A n sums path : ℕ) where
-  pub table_passed : judged_passes? (judge_of s P A n sums path) ≡ true → table_answer s ≡ table.Passes
+  pub table_passed : judged_passes? (judge_of s P A n sums path) ≡ true → table_answer s ≡ Ok tt
   unfolding judge_of under_table
-  table_passed e = decided (table_answer s) (λ p. p) (λ r other. never (rw r at e))
+  table_passed e = decided (table_answer s) (λ p. p) (λ refusal r. never (rw r at e))
 
   pub fits : judged_passes? (judge_of s P A n sums path) ≡ true → Fits (table_in s) P A n sums path
   unfolding judge_of
@@ -75,9 +74,9 @@ module _ (s : List ℕ) (P A n sums path : ℕ) where
       t : Table
       t = table_in s
 
-      under : under_table TableRefused (for_holds HasTimers (λ t. judge t P A n sums path)) s ≡ for_holds HasTimers (λ t. judge t P A n sums path) t
-      under = under_passes TableRefused _ s (table_passed e)
+      under : under_table (λ refusal. Err (why.Table refusal)) (for_holds (Err why.HasTimers) (λ t. judge t P A n sums path)) s ≡ for_holds (Err why.HasTimers) (λ t. judge t P A n sums path) t
+      under = under_passes (λ refusal. Err (why.Table refusal)) _ s (table_passed e)
 
-      go : (t.timers ≡ 0) ⊎ (1 ≤ t.timers) → judged_passes? (for_holds HasTimers (λ t. judge t P A n sums path) t) ≡ true → Fits t P A n sums path
-      go (inl none) p = judged t (well_formed s (table_passed e)) none P A n sums path (rw (has_holds HasTimers (λ t. judge t P A n sums path) t none) at p)
-      go (inr some) p = never (rw (has_timers HasTimers (λ t. judge t P A n sums path) t (λ z. omega arith)) at p)
+      go : (t.timers ≡ 0) ⊎ (1 ≤ t.timers) → judged_passes? (for_holds (Err why.HasTimers) (λ t. judge t P A n sums path) t) ≡ true → Fits t P A n sums path
+      go (inl none) p = judged t (well_formed s (table_passed e)) none P A n sums path (rw (has_holds (Err why.HasTimers) (λ t. judge t P A n sums path) t none) at p)
+      go (inr some) p = never (rw (has_timers (Err why.HasTimers) (λ t. judge t P A n sums path) t (λ z. omega arith)) at p)

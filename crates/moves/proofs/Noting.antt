@@ -10,7 +10,7 @@ use lib.ListN.{length, get_or, set, length-set}
 use lib.Seq.{get_or-set_same, get_or-set_other}
 use Rattle.wire.specs.Choice.{◌=?◌}
 use Rattle.wire.proofs.Choice.{never}
-use Rattle.sets.specs.Sets.{TakesSmallest}
+use Rattle.sets.specs.Sets.{member, TakesSmallest}
 use Rattle.sets.proofs.Walk.{Walk, Walked, begins, none_walked, all_walked, goes_on, taken_walked, walked_before, walked_now}
 use Rattle.table.specs.Entries.{zeros}
 use Rattle.table.proofs.Values.{get_or-zeros}
@@ -23,8 +23,8 @@ pub record Noting (states : ℕ) (Is : ℕ → ℕ → Type 0) (rest : ℕ) (arr
   pub done : (i : ℕ) → Walked states rest i → Is i (get_or array i 0)
   pub others : (i : ℕ) → (Walked states rest i → ⊥) → get_or array i 0 ≡ 0
 
-pub none_noted : {states : ℕ} {Is : ℕ → ℕ → Type 0} → Noting states Is states (zeros 32)
-none_noted = record { walk = begins; long = refl; done = λ i w. absurd (none_walked w); others = λ i none. get_or-zeros 32 i }
+pub none_noted : {states rest : ℕ} {Is : ℕ → ℕ → Type 0} → rest ≡ states → Noting states Is rest (zeros 32)
+none_noted all = rw all (record { walk = begins; long = refl; done = λ i w. absurd (none_walked w); others = λ i none. get_or-zeros 32 i })
 
 module _ {states : ℕ} {Is : ℕ → ℕ → Type 0} {rest : ℕ} {array : List ℕ} (inv : Noting states Is rest array) where
   pub one_noted : {i less : ℕ} → TakesSmallest rest i less → (v : ℕ) → Is i v → Noting states Is less (set array i v)
@@ -49,3 +49,8 @@ module _ {states : ℕ} {Is : ℕ → ℕ → Type 0} {rest : ℕ} {array : List
 
   pub all_noted : rest ≡ 0 → ForMembers states Is array
   all_noted e = record { each = λ i m. inv.done i (all_walked e m); others = λ i m. inv.others i (λ w. never (sym m ∙ w.is_in)) }
+
+-- What each member's number is, is also what follows of it.
+pub follows : {states : ℕ} {Is Then : ℕ → ℕ → Type 0} {array : List ℕ} → ForMembers states Is array
+    → ((i n : ℕ) → member states i ≡ true → Is i n → Then i n) → ForMembers states Then array
+follows all then = record { each = λ i m. then i _ m (all.each i m); others = all.others }

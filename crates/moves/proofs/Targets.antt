@@ -8,10 +8,9 @@ use native.Mathlib.Numerals.{add-one}
 use native.Mathlib.Omega.{arith}
 use lib.ListN.{get_or}
 use Rattle.wire.specs.Choice.{◌or◌}
-use Rattle.wire.proofs.Choice.{never, either, or_first, or_second}
+use Rattle.wire.proofs.Choice.{either, or_first, or_second}
 use Rattle.sets.specs.Sets.{member, Union, TakesSmallest}
-use Rattle.sets.proofs.Bits.{none_in_empty}
-use Rattle.sets.proofs.Walk.{Walk, Walked, begins, none_walked, all_walked, goes_on, taken_in, walked_now}
+use Rattle.sets.proofs.Walk.{Walk, Walked, all_walked, goes_on, taken_in, walked_now}
 use Rattle.table.specs.declared.Table.{Table}
 use Rattle.table.specs.Table.{next_of}
 use Rattle.reaction.specs.Reaction.{next_set}
@@ -27,9 +26,6 @@ pub record Uniting (sets : List ℕ) (P rest N : ℕ) : Type 0 where
   pub walk : Walk P rest
   pub has : (p q : ℕ) → Walked P rest p → member (get_or sets p 0) q ≡ true → member N q ≡ true
   pub only : (q : ℕ) → member N q ≡ true → (p : ℕ) × (member P p ≡ true) × (member (get_or sets p 0) q ≡ true)
-
-pub none_united : {sets : List ℕ} {P : ℕ} → Uniting sets P P 0
-none_united = record { walk = begins; has = λ p q w m. absurd (none_walked w); only = λ q m. never (sym (none_in_empty q) ∙ m) }
 
 module _ {sets : List ℕ} {P rest N : ℕ} (inv : Uniting sets P rest N) where
   pub all_united : rest ≡ 0 → Unites sets P N
@@ -51,9 +47,6 @@ module _ {sets : List ℕ} {P rest N : ℕ} (inv : Uniting sets P rest N) where
 pub record Moved (sets : List ℕ) (P moves k set : ℕ) : Type 0 where
   pub low : k ≤ moves
   pub times : UnitesTimes sets P k set
-
-pub not_moved : {sets : List ℕ} {P : ℕ} (moves : ℕ) → Moved sets P moves 0 P
-not_moved moves = record { low = omega arith; times = refl }
 
 module _ {sets : List ℕ} {P moves k set : ℕ} (inv : Moved sets P moves k set) where
   pub one_move_more : {more : ℕ} → k < moves → Unites sets set more → Moved sets P moves (k + 1) more

@@ -24,9 +24,8 @@ use Rattle.table.proofs.Values.{get_or-values, get_or-zeros}
 use Rattle.reaction.specs.Reaction.{first_from, off_target, weight}
 use Rattle.reaction.proofs.Meaning.{AllExist}
 use Rattle.reaction.proofs.Findings.{same_weight, weight_at_most, weight_at_least}
-use Rattle.moves.specs.declared.rounds.Way.{Way}
 use Rattle.moves.specs.Moves.{next_times, worst, round, sums_of, rows, path_from, largest_sum, worst_start, worst_path, reaction_over, sums_over, path_over}
-use Rattle.moves.specs.Walks.{ImagesAmong, HasImages, HasWeights, WorstMember, ahead_stored, round_stored, row_stored, sum_stored, path_along, whole_path_along, heaviest}
+use Rattle.moves.specs.Walks.{Way, ImagesAmong, HasImages, HasWeights, WorstMember, ahead_stored, round_stored, row_stored, sum_stored, path_along, whole_path_along, heaviest}
 use Rattle.moves.proofs.Rows.{same_largest, largest_at_most, row_at_most}
 use Rattle.moves.proofs.Worsts.{is_largest, is_worst, worst_in}
 use Rattle.moves.proofs.Smallest.{worst_found}
@@ -179,8 +178,8 @@ module _ {t : Table} {P A : ℕ} (all : AllExist t P A) {images : List ℕ} (of 
 -- ---- The path
 
 module _ {t : Table} {P A : ℕ} (all : AllExist t P A) (N n : ℕ) (after : List ℕ) where
-  abbrev way : (start : ℕ) → Way
-  way start = record { start = start; width = t.inputs; inputs = A; states = t.states }
+  abbrev way : Way
+  way = record { width = t.inputs; inputs = A; states = t.states }
 
   -- The slice has the rows in front.
   module _ (behind : List ℕ) (holds : after ≡ rows t P A N (weight t A) n ++ behind) where
@@ -190,17 +189,17 @@ module _ {t : Table} {P A : ℕ} (all : AllExist t P A) (N n : ℕ) (after : Lis
         ∙ get_or-append (rows t P A N (weight t A) n) behind 0 (r * t.states + q) (rw (length-rows t P A N (weight t A) n) (digits_lt row low))
         ∙ row_at t P A N (weight t A) n r q row low
 
-    path_agrees : (start left q : ℕ) → left < n → q < t.states → path_along (next_of t) (way start) after left q ≡ path_from t P A N (weight t A) left q
+    path_agrees : (left q : ℕ) → left < n → q < t.states → path_along (next_of t) way after left q ≡ path_from t P A N (weight t A) left q
     unfolding path_along path_from
-    path_agrees start zero q few low = refl
-    path_agrees start (suc k) q few low =
-        rw (agree.0, agree.1) (go (largest t.inputs (member A) ahead =? 0) refl (path_agrees start k))
+    path_agrees zero q few low = refl
+    path_agrees (suc k) q few low =
+        rw (agree.0, agree.1) (go (largest t.inputs (member A) ahead =? 0) refl (path_agrees k))
       where
         ahead : ℕ → ℕ
         ahead a = get_or (sums_of t P A N (weight t A) (suc k)) (next_of t q a) 0
 
-        agree : (largest t.inputs (member A) (ahead_stored (next_of t) (way start) after (k * t.states) q) ≡ largest t.inputs (member A) ahead) ×
-            (worst t.inputs (member A) (ahead_stored (next_of t) (way start) after (k * t.states) q) ≡ worst t.inputs (member A) ahead)
+        agree : (largest t.inputs (member A) (ahead_stored (next_of t) way after (k * t.states) q) ≡ largest t.inputs (member A) ahead) ×
+            (worst t.inputs (member A) (ahead_stored (next_of t) way after (k * t.states) q) ≡ worst t.inputs (member A) ahead)
         agree =
             same_worst (λ i. refl)
             (λ a m. rw (← add-one k) (place_has k (next_of t q a) (omega arith) (all.table.next q a low (all.inputs a m)))) t.inputs
@@ -209,8 +208,8 @@ module _ {t : Table} {P A : ℕ} (all : AllExist t P A) (N n : ℕ) (after : Lis
         input = worst t.inputs (member A) ahead
 
         go : (b : Bool) → (largest t.inputs (member A) ahead =? 0) ≡ b →
-            ((p : ℕ) → k < n → p < t.states → path_along (next_of t) (way start) after k p ≡ path_from t P A N (weight t A) k p) →
-            (if b then q ∷ [] else q ∷ input ∷ path_along (next_of t) (way start) after k (next_of t q input)) ≡
+            ((p : ℕ) → k < n → p < t.states → path_along (next_of t) way after k p ≡ path_from t P A N (weight t A) k p) →
+            (if b then q ∷ [] else q ∷ input ∷ path_along (next_of t) way after k (next_of t q input)) ≡
             (if b then q ∷ [] else q ∷ input ∷ path_from t P A N (weight t A) k (next_of t q input))
         go true e more = refl
         go false e more =
@@ -249,7 +248,7 @@ module _ {t : Table} {P A : ℕ} (all : AllExist t P A) (N n : ℕ) (after : Lis
       unfolding whole_path_along worst_path
       whole_is along width inputs states = rw (← sum_is) (go (sum =? 0) refl)
         where
-          path : (q : ℕ) → path_along (next_of t) along after (n - 1) q ≡ path_along (next_of t) (way along.start) after (n - 1) q
+          path : (q : ℕ) → path_along (next_of t) along after (n - 1) q ≡ path_along (next_of t) way after (n - 1) q
           path q = rw (← width, ← inputs, ← states) refl
 
           go : (b : Bool) → (sum =? 0) ≡ b → (if b then [] else path_along (next_of t) along after (n - 1) at) ≡ (if b then [] else path_from t P A N (weight t A) (n - 1) (worst_start t P A N (weight t A) n))
@@ -257,7 +256,7 @@ module _ {t : Table} {P A : ℕ} (all : AllExist t P A) (N n : ℕ) (after : Lis
           go false e =
               let other = eqb-false sum 0 e in
               path at
-              ∙ path_agrees along.start (n - 1) at (omega arith) (in_states at (worst_in found other))
+              ∙ path_agrees (n - 1) at (omega arith) (in_states at (worst_in found other))
               ∙ ap (path_from t P A N (weight t A) (n - 1)) (is_worst in_states found (omega arith) ∙ agree.1)
 
 -- ---- The answer, and what is written

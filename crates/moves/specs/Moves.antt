@@ -1,5 +1,5 @@
 -- Reaction over several moves: docs/RULES.md, "Several moves". P is a set of states and A a set of inputs, each a number; n is how many moves.
-use Rattle.std.specs.Prelude.{List, [], ◌∷◌, ◌++◌, Bool, not, ℕ, zero, suc, ◌+◌, ◌-◌, ◌*◌, ◌^◌, length, get_or, drop, if◌then◌else◌}
+use Rattle.std.specs.Prelude.{List, [], ◌∷◌, ◌++◌, Bool, not, ℕ, zero, suc, ◌+◌, ◌-◌, ◌*◌, ◌^◌, length, get_or, drop, Ok, Err, if◌then◌else◌}
 use Rattle.wire.specs.Choice.{◌<?◌, ◌=?◌, ◌and◌, ◌or◌}
 use Rattle.sets.specs.Sets.{member, largest}
 use Rattle.table.specs.declared.Table.{Table}
@@ -8,12 +8,9 @@ use Rattle.table.specs.Entries.{values, zeros}
 use Rattle.table.specs.Check.{table_in}
 use Rattle.table.specs.Under.{under_table}
 use Rattle.reaction.specs.Reaction.{next_set, off_target, weight, first_from, first_leaving, for_holds}
-use Rattle.moves.specs.declared.Judged.{Judged}
-use Rattle.moves.specs.declared.Judged.TheVariants.{Passes, TableRefused, HasTimers, UnknownState, UnknownInput, TooManyMoves, LeavesStates, NoRoom}
 use Rattle.moves.specs.declared.Reaction.{Reaction}
-use Rattle.moves.specs.declared.Answer.{Answer}
-use Rattle.moves.specs.declared.Answer.TheVariants.{Reacts, Refused}
-use Rattle.moves.specs.Answer.{judged_passes?}
+use Rattle.moves.specs.declared.Refusal.TheVariants as why
+use Rattle.moves.specs.Answer.{Judged, MovesAnswer, judged_passes?, judged_then}
 
 -- next applied n times to P.
 unfoldable pub next_times : Table → (P A n : ℕ) → ℕ
@@ -80,16 +77,16 @@ module _ (t : Table) (P A N : ℕ) where
 -- 9 for states, 9 for inputs, 32, 10, then 33: there are so many places for sums, and for the bytes of a path.
 unfoldable pub judge : Table → (P A n sums path : ℕ) → Judged
 judge t P A n sums path =
-    if not (P <? 2 ^ t.states) then UnknownState
-    else if not (A <? 2 ^ t.inputs) then UnknownInput
-    else if 32 <? n then TooManyMoves
-    else if first_leaving t P A <? t.states * t.inputs then LeavesStates (first_leaving t P A)
-    else if (sums <? n * t.states) or (path <? 2 * n - 1) then NoRoom
-    else Passes
+    if not (P <? 2 ^ t.states) then Err why.UnknownState
+    else if not (A <? 2 ^ t.inputs) then Err why.UnknownInput
+    else if 32 <? n then Err why.TooManyMoves
+    else if first_leaving t P A <? t.states * t.inputs then Err (why.LeavesStates (first_leaving t P A))
+    else if (sums <? n * t.states) or (path <? 2 * n - 1) then Err why.NoRoom
+    else Ok tt
 
 -- On the bytes of a table: its refusals come first, then 14.
 unfoldable pub judge_of : List ℕ → (P A n sums path : ℕ) → Judged
-judge_of s P A n sums path = under_table TableRefused (for_holds HasTimers (λ t. judge t P A n sums path)) s
+judge_of s P A n sums path = under_table (λ refusal. Err (why.Table refusal)) (for_holds (Err why.HasTimers) (λ t. judge t P A n sums path)) s
 
 -- The time, the target, and the length of the path.
 unfoldable pub reaction_over : Table → (P A n : ℕ) → Reaction
@@ -111,10 +108,8 @@ path_over t P A n path =
     written ++ drop (length written) path
 
 -- The answer and the buffers, by what the judge says.
-unfoldable pub moves_of : List ℕ → (P A n sums path : ℕ) → Answer
-moves_of s P A n sums path =
-    let judged = judge_of s P A n sums path in
-    if judged_passes? judged then Reacts (reaction_over (table_in s) P A n) else Refused judged
+unfoldable pub moves_of : List ℕ → (P A n sums path : ℕ) → MovesAnswer
+moves_of s P A n sums path = judged_then (judge_of s P A n sums path) (reaction_over (table_in s) P A n)
 
 unfoldable pub sums_after : List ℕ → (P A n : ℕ) → (sums : List ℕ) (path : ℕ) → List ℕ
 sums_after s P A n sums path = if judged_passes? (judge_of s P A n (length sums) path) then sums_over (table_in s) P A n sums else sums

@@ -6,20 +6,20 @@ use Rattle.wire.specs.Choice.{◌<?◌, ◌=?◌}
 use Rattle.sets.specs.Sets.{member, largest}
 use Rattle.table.specs.declared.Table.{Table}
 use Rattle.table.specs.Entries.{values, zeros}
-use Rattle.table.specs.Check.{table_in}
-use Rattle.rows.specs.Layouts.{NextRows}
-use Rattle.reaction.specs.Meaning.{Known}
 use Rattle.reaction.specs.Walks.{From, Image, weight_in}
-use Rattle.moves.specs.declared.rounds.Way.{Way}
+use Rattle.reaction.specs.declared.question.Question.{Question}
 use Rattle.moves.specs.Moves.{worst}
 
 -- ---- What is asked
 
--- The way is along the next states of the table in these bytes, by inputs that it has.
-pub record WayIn (s : List ℕ) (way : Way) : Type 0 where
-  pub rows : NextRows s way.start way.width
-  pub states : way.states ≡ (table_in s).states
-  pub inputs : Known way.width way.inputs
+-- How a path goes: I inputs to a row of next states, the inputs of A, Q states.
+pub record Way : Type 0 where
+  pub width : ℕ
+  pub inputs : ℕ
+  pub states : ℕ
+
+abbrev pub way_of : Question → Way
+way_of q = record { width = q.held.layout.inputs; inputs = q.inputs; states = q.held.layout.states }
 
 -- The images of the first so many states have no members but these states.
 pub record ImagesAmong (images : List ℕ) (Q : ℕ) : Type 0 where

@@ -1,16 +1,16 @@
 // What is turned down, in its order.
-ghost use Rattle.std.specs.Prelude.{◌≡◌, ◌-◌, ◌*◌, ◌≤◌};
+ghost use Rattle.std.specs.Prelude.{◌≡◌, ◌-◌, ◌*◌, ◌≤◌, Err};
 ghost use Rattle.wire.specs.Choice.{◌<?◌, ◌or◌};
-ghost use Rattle.table.specs.declared.Answer.TheVariants.{Passes};
-ghost use Rattle.table.specs.Check.{table_answer, table_in};
+ghost use Rattle.table.specs.Check.{table_in};
 ghost use Rattle.reaction.specs.Reaction.{for_holds};
-ghost use Rattle.moves.specs.declared.Judged as judged;
 ghost use Rattle.moves.specs.Moves.{judge, judge_of};
 
-use crate::Judged;
-use reaction::{Gathered, next_of_states};
+use crate::Refusal;
+use reaction::held::Held;
+use reaction::question::{Question, ask};
 use rows::layout_of;
-use sets::within;
+use table::check;
+use table::checked::Checked;
 
 pub const MOST_MOVES: u32 = 32;
 
@@ -29,46 +29,49 @@ fn lacks_room(n: usize, states: usize, sums: usize, path: usize) -> bool
 }
 
 fn judge_checked(
+    table: Checked,
+    states: u32,
+    inputs: u32,
+    moves: u32,
+    sums: usize,
+    path: usize,
+) -> Result<(), Refusal>
+    ensures { result ≡ for_holds (Err Refusal.HasTimers) (λ t. judge t states inputs moves sums path) (table_in table.entry.bytes.now) }
+{
+    let layout = layout_of(table.bytes);
+    let held = Held { table, layout };
+    ask(&held, states, inputs)?;
+    if MOST_MOVES < moves {
+        return Err(Refusal::TooManyMoves);
+    }
+    let question = Question {
+        held,
+        states,
+        inputs,
+    };
+    question.target_set()?;
+    let count = layout.states as usize;
+    if lacks_room(moves as usize, count, sums, path) {
+        return Err(Refusal::NoRoom);
+    }
+    Ok(())
+}
+
+// On any bytes, with so many places for sums and for the bytes of a path.
+pub fn judge(
     table: &[u8],
     states: u32,
     inputs: u32,
     moves: u32,
     sums: usize,
     path: usize,
-) -> Judged
-    requires { table_answer table.now ≡ Passes }
-    ensures { result ≡ for_holds Judged.HasTimers (λ t. judge t states inputs moves sums path) (table_in table.now) }
-{
-    let t = layout_of(table);
-    if t.timers != 0 {
-        return Judged::HasTimers;
-    }
-    if !within(states, t.states) {
-        return Judged::UnknownState;
-    }
-    if !within(inputs, t.inputs) {
-        return Judged::UnknownInput;
-    }
-    if MOST_MOVES < moves {
-        return Judged::TooManyMoves;
-    }
-    let gathered = next_of_states(table, t.next, t.inputs, states, inputs);
-    let Gathered::Inside(_) = gathered else {
-        return Judged::LeavesStates(gathered.place(t.inputs));
-    };
-    if lacks_room(moves as usize, t.states as usize, sums, path) {
-        return Judged::NoRoom;
-    }
-    Judged::Passes
-}
-
-// On any bytes, with so many places for sums and for the bytes of a path.
-pub fn judge(table: &[u8], states: u32, inputs: u32, moves: u32, sums: usize, path: usize) -> Judged
+) -> Result<(), Refusal>
     ensures { result ≡ judge_of table.now states inputs moves sums path }
 {
-    let checked = table::check(table);
-    let table::Answer::Passes = checked else {
-        return Judged::TableRefused(checked);
+    let passed = check(table);
+    let Ok(()) = passed else {
+        return Err(Refusal::Table(passed.unwrap_err()));
     };
+    let table = Checked { bytes: table };
     judge_checked(table, states, inputs, moves, sums, path)
 }

@@ -1,7 +1,6 @@
 -- On a table that passed its check the walks can be made, and what they find gives the answer.
 use mathlib.Core.Path.{◌≡◌, refl, sym, ap, ◌∙◌}
 use mathlib.Core.Bool.{Bool, true, false}
-use mathlib.Core.List.{[], ◌∷◌}
 use mathlib.Core.Logic.{◌⊎◌, inl, inr}
 use Prim.Native.Nat.{ℕ, ◌+◌, ◌*◌, ◌<◌, ◌≤◌}
 use native.Mathlib.Nat.{eq-or-lt_of_le}
@@ -9,23 +8,20 @@ use native.Mathlib.Omega.{arith}
 use borrow.Author.Tests.{not-true, leb-true, leb-false}
 use lib.Arith.{digits_lt}
 use lib.Dec.{leb}
-use denote.Enum.Declared.{tag_of}
-use types.Run.{OneOf, miss}
-use Rattle.std.specs.Prelude.{if◌then◌else◌}
+use Rattle.std.specs.Prelude.{Err, if◌then◌else◌}
 use Rattle.wire.specs.Choice.{◌<?◌, ◌and◌}
 use Rattle.wire.proofs.Choice.{never, both, and_both}
 use Rattle.sets.specs.Sets.{member, meets, Difference}
 use Rattle.sets.proofs.Members.{some_below}
 use Rattle.table.specs.declared.Table.{Table}
 use Rattle.table.specs.Table.{longest_hold, next_of, hold_of, delayed_of, delays}
-use Rattle.reaction.specs.declared.Answer.TheVariants.{Reacts, LeavesStates}
-use Rattle.reaction.specs.declared.Gathered.{Gathered}
-use Rattle.reaction.specs.declared.Gathered.TheVariants.{Inside, Leaves}
-use Rattle.reaction.specs.Reaction.{weight_of, weight, first_leaving, reaction_of}
+use Rattle.reaction.specs.declared.Leaving as leaves
+use Rattle.reaction.specs.declared.Refusal.TheVariants as why
+use Rattle.reaction.specs.Answer.{Reacts}
+use Rattle.reaction.specs.Reaction.{weight_of, weight, reaction_of}
 use Rattle.reaction.specs.Meaning.{Known, Pairs, NextStates, Slowest, Reaction, Leaving}
-use Rattle.reaction.specs.Walks.{FirstLeaving, Finds, PairBelow, place_of, weight_in, Reaches, IsLargest}
-use Rattle.reaction.specs.contracts.Gathered as GatheredT
-use Rattle.reaction.proofs.Meaning.{AllExist, search_ends, only_answer}
+use Rattle.reaction.specs.Walks.{FirstLeaving, PairBelow, place_of, weight_in, Reaches, IsLargest}
+use Rattle.reaction.proofs.Meaning.{AllExist, only_answer}
 
 -- A smaller number p × I + a stands before, by state and then by input.
 before : (I p a state input : ℕ) → input < I → p * I + a < state * I + input → (p < state) ⊎ ((p ≡ state) × (a < input))
@@ -83,23 +79,15 @@ module _ {t : Table} {P A : ℕ} (all : AllExist t P A) where
                 let l = leb-false (state * t.inputs + input) (p * t.inputs + a) e in
                 never (sym out ∙ found.first p a h (before t.inputs p a state input (all.inputs input found.pair.1) l))
 
-  -- What a `let .. else` on `Inside` finds in its else.
-  pub below : (g : Gathered) → Finds (next_of t) P (Pairs P A) g → PairBelow g
-  below (Inside target) f = tt
-  below (Leaves state input) f = pair_below f
+  module _ {pair : leaves.Leaving} (found : FirstLeaving (next_of t) P (Pairs P A) pair.state pair.input) where
+    pub below : PairBelow pair
+    below = pair_below found
 
-  pub leaving : (g : Gathered) → OneOf (1 ∷ []) (tag_of GatheredT.the_type g) → Finds (next_of t) P (Pairs P A) g → Leaving t P A (place_of t.inputs g)
-  leaving (Inside target) h f = absurd (miss (1 ∷ []) 0 tt h)
-  leaving (Leaves state input) h f = means_leaving f
+    pub leaving : Leaving t P A (place_of t.inputs pair)
+    leaving = means_leaving found
 
-  pub none_leaves : (g : Gathered) → OneOf (0 ∷ []) (tag_of GatheredT.the_type g) → Finds (next_of t) P (Pairs P A) g →
-      (first_leaving t P A <? t.states * t.inputs) ≡ false
-  none_leaves (Inside target) h f = search_ends all f
-  none_leaves (Leaves state input) h f = absurd (miss (0 ∷ []) 1 tt h)
-
-  pub leaves_is : (g : Gathered) → OneOf (1 ∷ []) (tag_of GatheredT.the_type g) → Finds (next_of t) P (Pairs P A) g →
-      (place : ℕ) → place ≡ place_of t.inputs g → LeavesStates place ≡ reaction_of t P A
-  leaves_is g h f place e = rw e (only_answer t all.table P A (LeavesStates (place_of t.inputs g)) (leaving g h f))
+    pub leaves_is : (place : ℕ) → place ≡ place_of t.inputs pair → Err (why.LeavesStates place) ≡ reaction_of t P A
+    leaves_is place e = rw e (only_answer t all.table P A (Err (why.LeavesStates (place_of t.inputs pair))) leaving)
 
   -- ---- Weights
 

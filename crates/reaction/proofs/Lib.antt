@@ -4,3 +4,4 @@ pub mod First
 pub mod Meaning
 pub mod Findings
 pub mod Entry
+pub mod Asking

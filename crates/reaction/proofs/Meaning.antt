@@ -8,7 +8,7 @@ use native.Mathlib.Omega.{arith}
 use borrow.Author.Tests.{lt-ltb, ltb-true, ltb-false, leb-true, leb-false, eq-eqb, eqb-true, not-true}
 use lib.Arith.{digits_lt, digits_div, digits_mod}
 use lib.Dec.{leb}
-use Rattle.std.specs.Prelude.{if◌then◌else◌}
+use Rattle.std.specs.Prelude.{Ok, Err, if◌then◌else◌}
 use Rattle.wire.specs.Choice.{◌<?◌, ◌and◌}
 use Rattle.wire.proofs.Choice.{never, both, and_both}
 use Rattle.sets.specs.Sets.{member, largest}
@@ -16,8 +16,8 @@ use Rattle.sets.proofs.Members.{same_members, member_below, below_limit, member_
 use Rattle.sets.proofs.Members.{largest_covers, largest_reached, Reaching}
 use Rattle.table.specs.declared.Table.{Table}
 use Rattle.table.specs.Table.{next_of, WellFormed}
-use Rattle.reaction.specs.declared.Answer.{Answer}
-use Rattle.reaction.specs.declared.Answer.TheVariants.{Reacts, TableRefused, HasTimers, UnknownState, UnknownInput, LeavesStates}
+use Rattle.reaction.specs.declared.Refusal.TheVariants as why
+use Rattle.reaction.specs.Answer.{ReactionAnswer, Reacts}
 use Rattle.reaction.specs.Reaction.{next_set, weight, reaction_time, leaves_at, first_leaving, reaction_of}
 use Rattle.reaction.proofs.First.{before_first, found_first}
 use Rattle.reaction.specs.Meaning.{Known, Unknown, Pairs, Comes, NextStates, Slowest, Reaction, Leaving, Means}
@@ -153,7 +153,7 @@ module _ {t : Table} {P A : ℕ} (all : AllExist t P A) where
   unfolding reaction_time
   time_reached = slowest (largest t.states outside (weight t A)) (largest_reached t.states outside (weight t A))
 
-  computed : (first_leaving t P A <? t.states * t.inputs) ≡ false → Reaction t P A (reaction_time t P A) (next_set t P A)
+  pub computed : (first_leaving t P A <? t.states * t.inputs) ≡ false → Reaction t P A (reaction_time t P A) (next_set t P A)
   computed none = record {
     states = all.states;
     inputs = all.inputs;
@@ -213,9 +213,9 @@ module _ (t : Table) (table : WellFormed t) (P A : ℕ) where
       go : (a : Bool) → (P <? 2 ^ t.states) ≡ a → (b : Bool) → (A <? 2 ^ t.inputs) ≡ b →
           (c : Bool) → (first_leaving t P A <? t.states * t.inputs) ≡ c →
           Means t P A
-          (if not a then UnknownState
-          else if not b then UnknownInput
-          else if c then LeavesStates (first_leaving t P A)
+          (if not a then Err why.UnknownState
+          else if not b then Err why.UnknownInput
+          else if c then Err (why.LeavesStates (first_leaving t P A))
           else Reacts (reaction_time t P A) (next_set t P A))
       go false e b f c g = unknown t.states P e
       go true e false f c g = (known t.states P e, unknown t.inputs A f)
@@ -223,28 +223,28 @@ module _ (t : Table) (table : WellFormed t) (P A : ℕ) where
       go true e true f false g = computed (all_exist (known t.states P e) (known t.inputs A f)) g
 
   -- The computed answer means what it should ..
-  pub means : (r : Answer) → r ≡ reaction_of t P A → Means t P A r
+  pub means : (r : ReactionAnswer) → r ≡ reaction_of t P A → Means t P A r
   means r e = rw e computed_means
 
   -- .. and no other answer does.
-  pub only_answer : (r : Answer) → Means t P A r → r ≡ reaction_of t P A
+  pub only_answer : (r : ReactionAnswer) → Means t P A r → r ≡ reaction_of t P A
   unfolding reaction_of
-  only_answer (Reacts time target) X =
+  only_answer (Ok r) X =
       let all = all_exist X.states X.inputs in
       let e = search_ends all X.next in
       rw (known_passes t.states P X.states, known_passes t.inputs A X.inputs, e) (same_reaction X (computed all e))
-  only_answer (TableRefused refusal) X = absurd X
-  only_answer HasTimers X = absurd X
-  only_answer UnknownState X = rw (unknown_fails t.states P X)
-  only_answer UnknownInput X = rw (known_passes t.states P X.0, unknown_fails t.inputs A X.1)
-  only_answer (LeavesStates place) X =
+  only_answer (Err (why.Table refusal)) X = absurd X
+  only_answer (Err why.HasTimers) X = absurd X
+  only_answer (Err why.UnknownState) X = rw (unknown_fails t.states P X)
+  only_answer (Err why.UnknownInput) X = rw (known_passes t.states P X.0, unknown_fails t.inputs A X.1)
+  only_answer (Err (why.LeavesStates place)) X =
       let all = all_exist X.states X.inputs in
       let e = search_finds all X.state X.input X.pair X.outside in
-      rw (known_passes t.states P X.states, known_passes t.inputs A X.inputs, e) (ap LeavesStates (same_leaving X (found all e)))
+      rw (known_passes t.states P X.states, known_passes t.inputs A X.inputs, e) (ap (λ k. Err (why.LeavesStates k)) (same_leaving X (found all e)))
 
   -- 10 comes wherever 9 does not and some next(p, a) is outside P.
   pub ten_comes : Known t.states P → Known t.inputs A → (p a : ℕ) → Pairs P A p a → member P (next_of t p a) ≡ false →
-      (place : ℕ) × (LeavesStates place ≡ reaction_of t P A)
+      (place : ℕ) × (Err (why.LeavesStates place) ≡ reaction_of t P A)
   ten_comes states inputs p a h out =
       let all = all_exist states inputs in
-      (first_leaving t P A, only_answer (LeavesStates (first_leaving t P A)) (found all (search_finds all p a h out)))
+      (first_leaving t P A, only_answer (Err (why.LeavesStates (first_leaving t P A))) (found all (search_finds all p a h out)))

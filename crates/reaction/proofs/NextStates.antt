@@ -12,7 +12,7 @@ use Rattle.wire.proofs.Choice.{never, both, either, or_first, or_second}
 use Rattle.sets.specs.Sets.{member, Single, Union, Difference, TakesSmallest}
 use Rattle.sets.proofs.Bits.{none_in_empty}
 use Rattle.sets.proofs.Members.{member_from}
-use Rattle.sets.proofs.Walk.{Walk, Walked, begins, none_walked, all_walked, goes_on}
+use Rattle.sets.proofs.Walk.{Walk, Walked, all_walked, goes_on}
 use Rattle.sets.proofs.Walk.{taken_in, smaller_walked, taken_walked, walked_before, walked_now}
 use Rattle.table.specs.Table.{next_of}
 use Rattle.table.specs.Check.{table_in}
@@ -86,9 +86,6 @@ pub record OverInputs (next : ℕ → ℕ → ℕ) (A state rest image : ℕ) : 
   pub walk : Walk A rest
   pub so_far : Image next (FromWalked state A rest) image
 
-pub no_input_yet : {next : ℕ → ℕ → ℕ} {A state : ℕ} → OverInputs next A state A 0
-no_input_yet = record { walk = begins; so_far = nothing (λ p a h. none_walked h.1) }
-
 module _ {next : ℕ → ℕ → ℕ} {A state rest image : ℕ} (inv : OverInputs next A state rest image) where
   pub all_inputs : rest ≡ 0 → Image next (From state A) image
   all_inputs e = same_pairs (λ p a h. (h.0, all_walked e h.1)) (λ p a h. (h.0, h.1.is_in)) inv.so_far
@@ -108,9 +105,6 @@ module _ {next : ℕ → ℕ → ℕ} {A state rest image : ℕ} (inv : OverInpu
 pub record Staying (next : ℕ → ℕ → ℕ) (P A state rest : ℕ) : Type 0 where
   pub walk : Walk A rest
   pub inside : (a : ℕ) → Walked A rest a → member P (next state a) ≡ true
-
-pub stays_yet : {next : ℕ → ℕ → ℕ} {P A state : ℕ} → Staying next P A state A
-stays_yet = record { walk = begins; inside = λ a w. absurd (none_walked w) }
 
 module _ {next : ℕ → ℕ → ℕ} {P A state rest : ℕ} (inv : Staying next P A state rest) where
   pub never_ends : rest ≡ 0 → SomeLeaves next P (From state A) → ⊥
@@ -156,9 +150,6 @@ pub record OverStates (next : ℕ → ℕ → ℕ) (P A rest target : ℕ) : Typ
   pub walk : Walk P rest
   pub so_far : Image next (PairsWalked P A rest) target
   pub inside : (q : ℕ) → member target q ≡ true → member P q ≡ true
-
-pub no_state_yet : {next : ℕ → ℕ → ℕ} {P A : ℕ} → OverStates next P A P 0
-no_state_yet = record { walk = begins; so_far = nothing (λ p a h. none_walked h.0); inside = λ q m. never (sym (none_in_empty q) ∙ m) }
 
 module _ {next : ℕ → ℕ → ℕ} {P A rest target : ℕ} (inv : OverStates next P A rest target) where
   pub all_states : rest ≡ 0 → NextStates next P (Pairs P A) target

@@ -1,10 +1,10 @@
 -- What each answer means, said by membership and without computing it: docs/RULES.md, "Reaction times", and refusals 9 and 10.
-use Rattle.std.specs.Prelude.{◌≡◌, true, false, ◌⊎◌, ℕ, ◌+◌, ◌*◌, ◌<◌, ◌≤◌}
+use Rattle.std.specs.Prelude.{◌≡◌, true, false, ◌⊎◌, ℕ, ◌+◌, ◌*◌, ◌<◌, ◌≤◌, Ok, Err}
 use Rattle.sets.specs.Sets.{member}
 use Rattle.table.specs.declared.Table.{Table}
 use Rattle.table.specs.Table.{next_of}
-use Rattle.reaction.specs.declared.Answer.{Answer}
-use Rattle.reaction.specs.declared.Answer.TheVariants.{Reacts, TableRefused, HasTimers, UnknownState, UnknownInput, LeavesStates}
+use Rattle.reaction.specs.declared.Refusal.TheVariants as why
+use Rattle.reaction.specs.Answer.{ReactionAnswer}
 use Rattle.reaction.specs.Reaction.{weight}
 
 -- The set names only members that exist, those below n; it names one that does not.
@@ -60,10 +60,10 @@ pub record Leaving (t : Table) (P A place : ℕ) : Type 0 where
   pub smallest : (p a : ℕ) → Pairs P A p a → member P (next_of t p a) ≡ false → place ≤ p * t.inputs + a
 
 -- What each answer says of P and A. It is given on a table with holds that passed its check, so that neither of the first refusals comes.
-abbrev pub Means : Table → ℕ → ℕ → Answer → Type 0
-Means t P A (Reacts time target) = Reaction t P A time target
-Means t P A (TableRefused refusal) = ⊥
-Means t P A HasTimers = ⊥
-Means t P A UnknownState = Unknown t.states P
-Means t P A UnknownInput = Known t.states P × Unknown t.inputs A
-Means t P A (LeavesStates place) = Leaving t P A place
+abbrev pub Means : Table → ℕ → ℕ → ReactionAnswer → Type 0
+Means t P A (Ok r) = Reaction t P A r.time r.target
+Means t P A (Err (why.Table refusal)) = ⊥
+Means t P A (Err why.HasTimers) = ⊥
+Means t P A (Err why.UnknownState) = Unknown t.states P
+Means t P A (Err why.UnknownInput) = Known t.states P × Unknown t.inputs A
+Means t P A (Err (why.LeavesStates place)) = Leaving t P A place

@@ -1,12 +1,13 @@
 -- The reaction calculator: docs/RULES.md, "Reaction times". P is a set of states and A a set of inputs, each a number.
-use Rattle.std.specs.Prelude.{List, Bool, not, ℕ, zero, suc, ◌+◌, ◌*◌, ◌/◌, ◌%◌, ◌^◌, if◌then◌else◌}
+use Rattle.std.specs.Prelude.{List, Bool, not, ℕ, zero, suc, ◌+◌, ◌*◌, ◌/◌, ◌%◌, ◌^◌, Result, Ok, Err, if◌then◌else◌}
 use Rattle.wire.specs.Choice.{◌<?◌, ◌=?◌, ◌and◌}
 use Rattle.sets.specs.Sets.{member, some, set_of, largest}
 use Rattle.table.specs.declared.Table.{Table}
 use Rattle.table.specs.Table.{next_of, hold_of, delays}
 use Rattle.table.specs.Under.{under_table}
-use Rattle.reaction.specs.declared.Answer.{Answer}
-use Rattle.reaction.specs.declared.Answer.TheVariants.{Reacts, TableRefused, HasTimers, UnknownState, UnknownInput, LeavesStates}
+use Rattle.reaction.specs.declared.Refusal.{Refusal}
+use Rattle.reaction.specs.declared.Refusal.TheVariants as why
+use Rattle.reaction.specs.Answer.{ReactionAnswer, Reacts}
 
 -- next(P, A) is every next(p, a) with p in P and a in A.
 unfoldable pub next_set : Table → (P A : ℕ) → ℕ
@@ -56,17 +57,26 @@ unfoldable pub first_leaving : Table → (P A : ℕ) → ℕ
 first_leaving t P A = first_from (leaves_at t P A) (t.states * t.inputs) 0
 
 -- 9 for states, 9 for inputs, then 10.
-unfoldable pub reaction_of : Table → (P A : ℕ) → Answer
+unfoldable pub reaction_of : Table → (P A : ℕ) → ReactionAnswer
 reaction_of t P A =
-    if not (P <? 2 ^ t.states) then UnknownState
-    else if not (A <? 2 ^ t.inputs) then UnknownInput
-    else if first_leaving t P A <? t.states * t.inputs then LeavesStates (first_leaving t P A)
+    if not (P <? 2 ^ t.states) then Err why.UnknownState
+    else if not (A <? 2 ^ t.inputs) then Err why.UnknownInput
+    else if first_leaving t P A <? t.states * t.inputs then Err (why.LeavesStates (first_leaving t P A))
     else Reacts (reaction_time t P A) (next_set t P A)
 
 -- The calculator is for tables with holds: 14 comes before its other refusals.
 unfoldable pub for_holds : {A : Type 0} → (timers : A) → (Table → A) → Table → A
 for_holds timers under t = if t.timers =? 0 then under t else timers
 
+-- What is asked is turned down by 14, 9 for states, 9 for inputs; and then by 10, or it has its target.
+unfoldable pub asked_of : Table → (P A : ℕ) → Result Unit Refusal
+asked_of t P A =
+    for_holds (Err why.HasTimers)
+    (λ t. if not (P <? 2 ^ t.states) then Err why.UnknownState else if not (A <? 2 ^ t.inputs) then Err why.UnknownInput else Ok tt) t
+
+unfoldable pub target_of : Table → (P A : ℕ) → Result ℕ Refusal
+target_of t P A = if first_leaving t P A <? t.states * t.inputs then Err (why.LeavesStates (first_leaving t P A)) else Ok (next_set t P A)
+
 -- On the bytes of a table.
-unfoldable pub react_of : List ℕ → (P A : ℕ) → Answer
-react_of s P A = under_table TableRefused (for_holds HasTimers (λ t. reaction_of t P A)) s
+unfoldable pub react_of : List ℕ → (P A : ℕ) → ReactionAnswer
+react_of s P A = under_table (λ refusal. Err (why.Table refusal)) (for_holds (Err why.HasTimers) (λ t. reaction_of t P A)) s

@@ -1,21 +1,11 @@
 -- What the calculator's inner functions ask and find.
-use Rattle.std.specs.Prelude.{◌≡◌, true, false, ◌⊎◌, List, ℕ, ◌+◌, ◌*◌, ◌<◌, ◌≤◌}
+use Rattle.std.specs.Prelude.{◌≡◌, true, false, ◌⊎◌, ℕ, ◌+◌, ◌*◌, ◌<◌, ◌≤◌, Result, Ok, Err}
 use Rattle.sets.specs.Sets.{member, meets}
-use Rattle.table.specs.declared.Answer.TheVariants.{Passes}
 use Rattle.table.specs.declared.Table.{Table}
 use Rattle.table.specs.Table.{hold_of, delayed_of}
-use Rattle.table.specs.Check.{table_answer, table_in, counts_in, hold_field, delayed_field}
-use Rattle.rows.specs.Layouts.{NextRows}
-use Rattle.reaction.specs.declared.Gathered.{Gathered}
-use Rattle.reaction.specs.declared.Gathered.TheVariants.{Inside, Leaves}
+use Rattle.reaction.specs.declared.Leaving.{Leaving}
 use Rattle.reaction.specs.Reaction.{weight_of}
-use Rattle.reaction.specs.Meaning.{Known, Comes, NextStates}
-
--- Rows of next states over which P and A can be walked: the table has such states and inputs.
-pub record Walkable (s : List ℕ) (from width P A : ℕ) : Type 0 where
-  pub rows : NextRows s from width
-  pub states : Known (table_in s).states P
-  pub inputs : Known width A
+use Rattle.reaction.specs.Meaning.{Comes, NextStates}
 
 -- One state and a in A.
 abbrev pub From : ℕ → ℕ → ℕ → ℕ → Type 0
@@ -36,26 +26,16 @@ pub record FirstLeaving (next : ℕ → ℕ → ℕ) (P : ℕ) (Pair : ℕ → �
   pub outside : member P (next state input) ≡ false
   pub first : (p a : ℕ) → Pair p a → (p < state) ⊎ ((p ≡ state) × (a < input)) → member P (next p a) ≡ true
 
-abbrev pub Finds : (ℕ → ℕ → ℕ) → ℕ → (ℕ → ℕ → Type 0) → Gathered → Type 0
-Finds next P Pair (Inside target) = NextStates next P Pair target
-Finds next P Pair (Leaves state input) = FirstLeaving next P Pair state input
+abbrev pub Finds : (ℕ → ℕ → ℕ) → ℕ → (ℕ → ℕ → Type 0) → Result ℕ Leaving → Type 0
+Finds next P Pair (Ok target) = NextStates next P Pair target
+Finds next P Pair (Err pair) = FirstLeaving next P Pair pair.state pair.input
 
--- The pair that leaves, if there is one, is of a state and an input below 32; its place in rows of this width.
-abbrev pub PairBelow : Gathered → Type 0
-PairBelow (Inside target) = Unit
-PairBelow (Leaves state input) = (state < 32) × (input < 32)
+-- The pair is of a state and an input below 32; its place in rows of this width.
+abbrev pub PairBelow : Leaving → Type 0
+PairBelow pair = (pair.state < 32) × (pair.input < 32)
 
-abbrev pub place_of : ℕ → Gathered → ℕ
-place_of width (Inside target) = 0
-place_of width (Leaves state input) = state * width + input
-
--- The bytes of a table with holds: where the entries of fields 05 and 06 start, and its cycle bound.
-pub record Weighable (s : List ℕ) (holds delayed E : ℕ) : Type 0 where
-  pub passes : table_answer s ≡ Passes
-  pub no_timers : (table_in s).timers ≡ 0
-  pub holds_start : holds ≡ hold_field (counts_in s) + 3
-  pub delayed_start : delayed ≡ delayed_field (counts_in s) + 3
-  pub bound : E ≡ (table_in s).bound
+abbrev pub place_of : ℕ → Leaving → ℕ
+place_of width pair = pair.state * width + pair.input
 
 -- The weight of p, by the sets as they stand.
 abbrev pub weight_in : Table → (A p : ℕ) → ℕ

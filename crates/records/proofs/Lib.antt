@@ -5,10 +5,6 @@ pub mod Reading
 pub mod Widths
 pub mod Written
 pub mod Places
-pub mod Passing
 pub mod Fields
-pub mod AnyReader
-pub mod JournalReader
-pub mod StampReader
-pub mod StimulusReader
-pub mod AloneReader
+pub mod ByKind
+pub mod AnyField

@@ -1,16 +1,14 @@
 -- The entries, outcome by outcome: what the code makes is what the definition says.
-use Rattle.std.proofs.Common.{◌≡◌, ℕ, zero, suc, ◌+◌, ◌-◌, List, [], ◌++◌, length, take, drop, refl, ap, ◌∙◌, arith}
+use Rattle.std.specs.Prelude.{Err}
+use Rattle.std.proofs.Common.{◌≡◌, ℕ, zero, suc, ◌-◌, List, [], ◌++◌, length, take, drop, refl, ap, ◌∙◌, arith}
 use lib.Seq.{take-length}
-use Rattle.table.specs.declared.Answer as tables
-use Rattle.table.specs.declared.Answer.TheVariants.{Passes}
+use Rattle.table.specs.declared.Refusal as tables
+use Rattle.table.specs.Answer.{TableAnswer}
 use Rattle.table.specs.Entries.{zeros}
 use Rattle.table.specs.Check.{table_answer}
-use Rattle.table.proofs.Answers.{Refused, refuses}
-use Rattle.tally.specs.declared.Tally.{Tally}
-use Rattle.tally.specs.Sums.{summed}
 use Rattle.report.specs.declared.Report.{Report}
 use Rattle.report.specs.declared.Begun.{Begun}
-use Rattle.report.specs.Report.{longest_table, empty_with, begin_of, with_tally}
+use Rattle.report.specs.Report.{longest_table, empty_with, begin_of}
 
 -- ---- Begun
 
@@ -31,26 +29,7 @@ pub empty_made : (table array : List ℕ) (size : ℕ) → size ≡ length table
     array ≡ take (length table) table ++ drop (length table) (zeros longest_table) → empty_of size array ≡ empty_with table
 empty_made table array size is copied = ap (λ n. empty_of n array) is ∙ ap (empty_of (length table)) (array_kept table array copied)
 
-module _ (table : List ℕ) (a : tables.Answer) (is : a ≡ table_answer table) (x : Report) where
-  abbrev begun : Begun
-  begun = record { answer = a; report = x }
-
-  pub begun_refused : Refused a → x ≡ empty_with [] → begun ≡ begin_of table
-  unfolding begin_of
-  begun_refused h e = let r = rw is at (refuses a h) in rw (r, e, is)
-
-  pub begun_passed : table_answer table ≡ Passes → x ≡ empty_with table → begun ≡ begin_of table
-  unfolding begin_of
-  begun_passed passes e = rw (e, is, passes) refl
-
--- ---- Sums
-
--- The sums of all three arrays.
-module _ (x : Report) (y : Tally) (dwell pairs entries : List ℕ) where
-  abbrev summed_report : Report
-  summed_report = record { size = x.size; table = x.table; journals = x.journals + 1; dwell = dwell; pairs = pairs; entries = entries }
-
-  pub tally_added : dwell ≡ summed x.dwell y.dwell → pairs ≡ summed x.pairs y.pairs → entries ≡ summed x.entries y.entries →
-      summed_report ≡ with_tally x y
-  unfolding with_tally
-  tally_added d p e = rw (d, p, e) refl
+pub begun_refused : (table : List ℕ) {a : TableAnswer} {x : Report} {refusal : tables.Refusal} → a ≡ table_answer table → a ≡ Err refusal → x ≡ empty_with [] →
+    ◌≡◌ {A = Begun} (record { answer = a; report = x }) (begin_of table)
+unfolding begin_of
+begun_refused table is h e = let r = rw is at h in rw (e, is, r) refl

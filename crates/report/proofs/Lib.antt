@@ -2,4 +2,3 @@ pub mod Adding
 pub mod Accepting
 pub mod TableLong
 pub mod Row
-pub mod Held

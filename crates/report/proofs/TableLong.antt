@@ -1,9 +1,9 @@
+use Rattle.std.specs.Prelude.{Ok}
 use Rattle.std.proofs.Common.{◌≡◌, ℕ, ◌*◌, ◌≤◌, false, List, length, ⊎_elim, mul-le-mul, arith}
-use Rattle.table.specs.declared.Answer.TheVariants.{Passes}
 use Rattle.table.specs.Check.{counts_in, claimed_timers, table_answer}
 use Rattle.table.proofs.Stands.{table_stands, timing_stands}
 
-pub table_long : (s : List ℕ) → table_answer s ≡ Passes → length s ≤ 1626
+pub table_long : (s : List ℕ) → table_answer s ≡ Ok tt → length s ≤ 1626
 table_long s e =
     let c = counts_in s in
     let stands = table_stands false s e in

@@ -1,3 +1,4 @@
+pub mod Sizes
 pub mod Puts
 pub mod Restating
 pub mod Entries

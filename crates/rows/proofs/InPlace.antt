@@ -7,10 +7,9 @@ use Prim.Native.Nat.{ℕ, suc, ◌+◌, ◌*◌, ◌/◌, ◌<◌, ◌≤◌}
 use native.Mathlib.Nat.{mul-le-mul, suc-mul}
 use native.Mathlib.Omega.{arith}
 use lib.ListN.{length, get_or}
-use Rattle.std.specs.Prelude.{if◌then◌else◌}
+use Rattle.std.specs.Prelude.{Ok, if◌then◌else◌}
 use Rattle.wire.specs.Choice.{◌=?◌}
 use Rattle.wire.specs.Field.{byte_at, number16_at, number32_at}
-use Rattle.table.specs.declared.Answer.TheVariants.{Passes}
 use Rattle.table.specs.Table.{output_of, next_of, hold_of, delayed_of, timer_set_of}
 use Rattle.table.specs.Check.{counts_in, byte_entry, word_entry, next_field, hold_field, delayed_field, timer_set_field, timers_in}
 use Rattle.table.specs.Check.{table_with, table_answer, table_in}
@@ -24,7 +23,7 @@ row_before q n rows k h l =
     let more : suc q * n ≤ rows * n = mul-le-mul h (omega arith) in
     omega (arith, suc-mul q n)
 
-module _ (s : List ℕ) (e : table_answer s ≡ Passes) where
+module _ (s : List ℕ) (e : table_answer s ≡ Ok tt) where
   pub stands : HeadStands s (counts_in s)
   stands = (table_stands false s e).0
 

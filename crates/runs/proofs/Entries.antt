@@ -4,6 +4,7 @@ use mathlib.Core.Logic.{⊎_elim}
 use mathlib.Core.List.{List, [], ◌∷◌}
 use Prim.Native.Nat.{ℕ, ◌<◌}
 use borrow.Author.Tests.{le-leb, lt-leb, eqb-true}
+use Rattle.std.proofs.lemmas.Bool.{cases_lt}
 use Rattle.table.specs.declared.Table.{Table}
 use Rattle.table.specs.Table.{in_region}
 use Rattle.machine.specs.declared.Machine.{Machine}
@@ -16,7 +17,7 @@ use Rattle.machine.proofs.Steps.{Taken}
 use Rattle.machine.proofs.Watches.{region_after}
 use Rattle.machine.proofs.Counts.{state_from_lem}
 use Rattle.runs.specs.Slots.{slot, entry_from, last_entry, KeepsEntries}
-use Rattle.runs.proofs.Records.{not_both, split, first_entry, first_taken}
+use Rattle.runs.proofs.Records.{not_both, first_entry, first_taken}
 use Rattle.runs.proofs.Slots.{slot_before, slot-after}
 
 module _ (t : Table) (k : ℕ) (small : k < 4) where
@@ -36,9 +37,9 @@ module _ (t : Table) (k : ℕ) (small : k < 4) where
       let rest = entry_shown f rs (after t m r) last run.1 in
       let named = rw (state_from_lem t m r (after t m r) run.0, entry_after m r (first_taken t m r rs last run)) at rest in
       ⊎_elim
-      (λ now. rw (slot-after t f rs r m now, le-leb (time_of r) f now) named)
       (λ past. rw (slot_before t f rs r m m last run past, lt-leb (time_of r) f past))
-      (split (time_of r) f)
+      (λ now. rw (slot-after t f rs r m now, le-leb (time_of r) f now) named)
+      (cases_lt f (time_of r))
 
 pub keeps_entries : (t : Table) → KeepsEntries t
 keeps_entries t input rs T accepted k f small = rw (first_entry k small) at (entry_shown t k small f rs _ accepted.last accepted.runs)

@@ -5,6 +5,7 @@ use mathlib.Core.Bool.{true}
 use Prim.Native.Nat.{ℕ, ◌+◌, ◌-◌, ◌<◌, ◌≤◌}
 use native.Mathlib.Omega.{arith}
 use borrow.Author.Tests.{ltb-true}
+use Rattle.std.proofs.lemmas.Bool.{cases_lt}
 use Rattle.wire.specs.Choice.{◌<?◌}
 use Rattle.wire.proofs.Choice.{both}
 use Rattle.table.specs.declared.Table.{Table}
@@ -21,7 +22,7 @@ use Rattle.machine.proofs.Before.{entry_before}
 use Rattle.machine.proofs.Steps.{Taken}
 use Rattle.runs.specs.Reaction.{NoRegions}
 use Rattle.runs.proofs.Rules.{by_hold}
-use Rattle.runs.proofs.Records.{repeats_or_changes, split, phases}
+use Rattle.runs.proofs.Records.{repeats_or_changes, phases}
 
 -- The polled input was that of a slot of this cycle.
 pub record PolledIn (slots : ℕ → Machine) (polled start now : ℕ) : Type 0 where
@@ -77,8 +78,8 @@ module _ (t : Table) (slots : ℕ → Machine) where
   until m now order shows h = record {
     entered = h.entered;
     begun = omega (arith, h.begun);
-    state = λ k l u. ⊎_elim (λ new. ap (λ (n : Machine). n.state) (shows k new u)) (λ old. h.state k l old) (split m.time k);
-    input = λ k l u. ⊎_elim (λ new. ap (λ (n : Machine). n.input) (shows k new u)) (λ old. h.input k l old) (split m.time k);
+    state = λ k l u. ⊎_elim (λ old. h.state k l old) (λ new. ap (λ (n : Machine). n.state) (shows k new u)) (cases_lt k m.time);
+    input = λ k l u. ⊎_elim (λ old. h.input k l old) (λ new. ap (λ (n : Machine). n.input) (shows k new u)) (cases_lt k m.time);
     polled = λ l. let p = h.polled l in record { at = p.at; begun = p.begun; past = omega (arith, p.past); was = p.was };
     held = h.held;
   }

@@ -5,6 +5,7 @@ use mathlib.Core.Bool.{Bool, true}
 use Prim.Native.Nat.{ℕ, ◌+◌, ◌-◌, ◌<◌, ◌≤◌}
 use native.Mathlib.Omega.{arith}
 use Rattle.std.specs.Prelude.{if◌then◌else◌}
+use Rattle.std.proofs.lemmas.Bool.{cases_lt}
 use Rattle.wire.specs.Choice.{◌=?◌}
 use Rattle.table.specs.declared.Table.{Table}
 use Rattle.table.specs.Table.{next_of}
@@ -17,7 +18,7 @@ use Rattle.machine.proofs.Before.{entry_before}
 use Rattle.machine.proofs.Steps.{Taken}
 use Rattle.runs.specs.Slots.{SlotsNotTooLate}
 use Rattle.runs.specs.Reaction.{Reach, there, via, Suffices}
-use Rattle.runs.proofs.Records.{split, phases, state_kept, entry_kept, state_next}
+use Rattle.runs.proofs.Records.{phases, state_kept, entry_kept, state_next}
 use Rattle.runs.proofs.History.{History}
 use Rattle.runs.proofs.Slots.{from_start, InSlot, in_slot}
 
@@ -69,7 +70,7 @@ module _ {t : Table} {P A N : ℕ → Bool} {w : ℕ → ℕ} {c : ℕ} (enough 
 
   ticked : (m : Machine) (now state : ℕ) → Taken t m (Tick now state) → History t slots m now → now ≤ s + c → InTime m →
       InTime (after t m (Tick now state))
-  ticked m now state takes h l kept = ⊎_elim old (λ new. inl (omega (arith, takes.in_cycle))) (split s m.start)
+  ticked m now state takes h l kept = ⊎_elim (λ new. inl (omega (arith, takes.in_cycle))) old (cases_lt m.start s)
     where
       old : s ≤ m.start → InTime (after t m (Tick now state))
       old from_s =
@@ -90,9 +91,9 @@ module _ {t : Table} {P A N : ℕ → Bool} {w : ℕ → ℕ} {c : ℕ} (enough 
   -- In slot s + c no tick is due any more.
   at_last : (m : Machine) → InSlot t slots InTime (s + c) m → N m.state ≡ true
   at_last m here = ⊎_elim
-      (λ old. go (shown m _ here.history old (omega (arith, here.begun, here.past)) here.kept))
       (λ new. absurd (omega (arith, here.past, here.takes.in_cycle, enough.covers_bound)))
-      (split s m.start)
+      (λ old. go (shown m _ here.history old (omega (arith, here.begun, here.past)) here.kept))
+      (cases_lt m.start s)
     where
       go : OnCourse m → N m.state ≡ true
       go (home n) = n

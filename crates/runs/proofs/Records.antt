@@ -5,9 +5,10 @@ use mathlib.Core.List.{List, ◌∷◌}
 use mathlib.Core.Bool.{Bool, true, false, not}
 use Prim.Native.Nat.{ℕ, zero, suc, ◌<◌, ◌≤◌}
 use native.Mathlib.Omega.{arith}
-use borrow.Author.Tests.{leb-true, leb-false, eq-eqb, ne_eqb, eqb-true, eqb-false}
+use borrow.Author.Tests.{eq-eqb, ne_eqb, eqb-true, eqb-false}
+use Rattle.std.proofs.lemmas.Bool.{cases_lt}
 use Rattle.std.specs.Prelude.{if◌then◌else◌}
-use Rattle.wire.specs.Choice.{◌≤?◌, ◌=?◌, ◌and◌}
+use Rattle.wire.specs.Choice.{◌=?◌, ◌and◌}
 use Rattle.wire.proofs.Choice.{never}
 use Rattle.table.specs.declared.Table.{Table}
 use Rattle.table.specs.Table.{next_of}
@@ -19,12 +20,9 @@ use Rattle.machine.proofs.Laws.{repeat_leaves, change_counts, from_phase_3, stay
 use Rattle.machine.proofs.Steps.{Taken, step_taken}
 use Rattle.machine.proofs.Watches.{four}
 
+-- As the crates above take it.
 pub split : (n k : ℕ) → (n ≤ k) ⊎ (k < n)
-split n k = go (n ≤? k) refl
-  where
-    go : (b : Bool) → (n ≤? k) ≡ b → (n ≤ k) ⊎ (k < n)
-    go true e = inl (leb-true n k e)
-    go false e = inr (leb-false n k e)
+split n k = ⊎_elim inr inl (cases_lt k n)
 
 pub not_both : (b : Bool) → (b and not b) ≡ false
 not_both true = refl

@@ -7,6 +7,7 @@ use Prim.Native.Nat.{ℕ, ◌-◌, ◌<◌, ◌≤◌}
 use native.Mathlib.Omega.{arith}
 use borrow.Author.Tests.{lt-ltb, le-leb, eq-eqb, ltb-true, leb-true, eqb-true}
 use Rattle.std.specs.Prelude.{if◌then◌else◌}
+use Rattle.std.proofs.lemmas.Bool.{cases_lt}
 use Rattle.wire.specs.Choice.{◌<?◌, ◌≤?◌, ◌=?◌, ◌and◌, ◌or◌}
 use Rattle.wire.proofs.Apart.{apart}
 use Rattle.wire.proofs.Choice.{never, both, and_both, or_first, or_second, either}
@@ -22,7 +23,6 @@ use Rattle.machine.proofs.Rules.{exactly_one, no_hold}
 use Rattle.machine.proofs.Watches.{rule_runs, rule_passed, rule_idle, each_timer, timer_of_each, some_timer, timer_of_some, rule_by_state, no_timer, no_regions, no_holds}
 use Rattle.runs.specs.Automaton.{hold_clocks, Delaying, timer_clocks, RunningIsTa3, PassedIsTa4, NoHoldIsTa5, RulesAreEdges, HoldRules, TimerRules}
 use Rattle.runs.specs.Reaction.{NoRegions}
-use Rattle.runs.proofs.Records.{split}
 
 -- ---- One hold
 
@@ -92,7 +92,7 @@ hold_rules t good untimed = by_hold t (no_regions good untimed)
 
 module _ {t : Table} (good : WellFormed t) where
   is_timer : (k q : ℕ) → in_region t k q ≡ true → k < t.timers
-  is_timer k q has = ⊎_elim (λ past. never (sym (none_in_empty q) ∙ (rw (no_timer good k past).1 at has))) (λ l. l) (split t.timers k)
+  is_timer k q has = ⊎_elim (λ l. l) (λ past. never (sym (none_in_empty q) ∙ (rw (no_timer good k past).1 at has))) (cases_lt k t.timers)
 
   module _ (m : Machine) (now : ℕ) where
     abbrev Delayed : ℕ → Type 0
@@ -162,7 +162,7 @@ module _ {t : Table} (good : WellFormed t) where
       passed_is_ta_4_by = (
         λ e. (
           ⊎_elim (λ s. apart (cc state_idle)) (λ s. let o = timer_of_some t m (Tells Passed) s in (o.0, passed_delays o.0 o.2)) ((rule_passed t m now).0 e).1,
-          λ k d. ⊎_elim (λ l. let r = running_is_ta_3_by.1 (k, d, l) in apart cc) (λ l. l) (split (y k) (length_of t k)),
+          λ k d. ⊎_elim (λ l. l) (λ l. let r = running_is_ta_3_by.1 (k, d, l) in apart cc) (cases_lt (length_of t k) (y k)),
         ),
         λ o. go (rule t m now) refl o.0 o.1,
       )

@@ -5,6 +5,7 @@ use mathlib.Core.List.{List, [], ◌∷◌}
 use Prim.Native.Nat.{ℕ, ◌<◌, ◌≤◌}
 use native.Mathlib.Omega.{arith}
 use borrow.Author.Tests.{le-leb, lt-leb}
+use Rattle.std.proofs.lemmas.Bool.{cases_lt}
 use Rattle.table.specs.declared.Table.{Table}
 use Rattle.machine.specs.declared.Machine.{Machine}
 use Rattle.records.specs.declared.Record.{Record}
@@ -15,7 +16,7 @@ use Rattle.machine.proofs.Before.{time_after}
 use Rattle.machine.proofs.Steps.{Taken}
 use Rattle.runs.specs.Accepted.{Accepted}
 use Rattle.runs.specs.Slots.{slot}
-use Rattle.runs.proofs.Records.{split, first_taken}
+use Rattle.runs.proofs.Records.{first_taken}
 use Rattle.runs.proofs.History.{History, at_first, until, onward}
 
 module _ (t : Table) (k : ℕ) where
@@ -75,7 +76,6 @@ module _ (t : Table) (slots : ℕ → Machine) (Kept : Machine → Type 0) (k : 
       InSlot t slots Kept k (slots k)
   in_slot [] m last run kept l u = absurd (omega (arith, ap (λ (n : Machine). n.time) run.runs))
   in_slot (r ∷ rs) m last run kept l u = ⊎_elim
-      (λ now. in_slot rs (after t m r) last (onwards run) (keep m r (taken run) (history_then run) now kept) (omega (arith, time_after t m r)) u)
       (λ past. rw (shows_m run k l past) (record {
         begun = omega (arith, run.history.begun);
         next = r;
@@ -84,4 +84,5 @@ module _ (t : Table) (slots : ℕ → Machine) (Kept : Machine → Type 0) (k : 
         history = history_then run;
         kept = kept;
       }))
-      (split (time_of r) k)
+      (λ now. in_slot rs (after t m r) last (onwards run) (keep m r (taken run) (history_then run) now kept) (omega (arith, time_after t m r)) u)
+      (cases_lt k (time_of r))

@@ -1,2 +1,3 @@
+pub mod Answering
 pub mod Lengths
 pub mod Producing

@@ -2,12 +2,13 @@
 // every contract speaks of members, so that what stands above needs no law of bits.
 #![tactic(auto)]
 
-ghost use Rattle.std.specs.Prelude.{◌≡◌, ◌^◌, ◌<◌, ◌≤◌};
+ghost use Rattle.std.specs.Prelude.{◌≡◌, ◌^◌, ◌<◌, ◌≤◌, MatchOption};
+ghost use Rattle.std.specs.Iterator.{at_most};
 ghost use Rattle.wire.specs.Choice.{◌<?◌};
 ghost use Rattle.sets.specs.Sets.{member, meets, Single, Union, Difference, TakesSmallest};
 
 // A member, and the set without it.
-#[derive(Clone, Copy)]
+#[derive(Clone, Copy, Debug, PartialEq, Eq)]
 pub struct Taken {
     pub member: u32,
     pub rest: u32,
@@ -60,7 +61,7 @@ pub fn within(set: u32, n: u32) -> bool
     ensures { result ≡ (set <? 2 ^ n) }
 {
     let below = (set_limit(n) - 1) as u32;
-    u32::count_ones(set & below) == u32::count_ones(set)
+    (set & below).count_ones() == set.count_ones()
 }
 
 // A walk over the members takes the smallest each time.
@@ -69,7 +70,38 @@ pub fn take_smallest(set: u32) -> Taken
     ensures { TakesSmallest set result.member result.rest }
 {
     Taken {
-        member: u32::trailing_zeros(set),
+        member: set.trailing_zeros(),
         rest: set & (set - 1),
+    }
+}
+
+// The members of a set, from the smallest on.
+#[derive(Clone, Copy, Debug, PartialEq, Eq)]
+pub struct MembersOf {
+    pub rest: u32,
+}
+
+impl MembersOf {
+    pub fn new(set: u32) -> MembersOf
+        ensures { result.rest ≡ set }
+    {
+        MembersOf { rest: set }
+    }
+}
+
+impl Iterator for MembersOf {
+    type Item = u32;
+
+    ghost next_gives = { λ s r t. MatchOption r ((s.rest ≡ 0) × (t.rest ≡ 0)) (λ i. TakesSmallest s.rest i t.rest) };
+
+    ghost remaining = { λ s. at_most s.rest };
+
+    fn next(&mut self) -> Option<u32> {
+        if self.rest == 0 {
+            return None;
+        }
+        let taken = take_smallest(self.rest);
+        self.rest = taken.rest;
+        Some(taken.member)
     }
 }

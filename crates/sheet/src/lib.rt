@@ -13,12 +13,6 @@ use report::Report;
 // As many bytes of a name are written.
 pub const LONGEST_NAME: usize = 4096;
 
-fn least(a: usize, b: usize) -> usize
-    ensures { result ≡ min a b }
-{
-    if a < b { a } else { b }
-}
-
 // Numbers after a word: each after a comma, and the line's end. Each number has at most twenty digits.
 fn put_numbers(out: &mut [u8; 65536], at: usize, numbers: &[u64]) -> usize
     requires { at + 21 * length numbers.now < 65536 }
@@ -26,10 +20,8 @@ fn put_numbers(out: &mut [u8; 65536], at: usize, numbers: &[u64]) -> usize
     ensures short { result ≤ at + 21 * length numbers.now + 1 }
 {
     let mut end = at;
-    let mut k = 0;
-    while k < numbers.len() {
-        end = put_number(out, end, b",", numbers[k]);
-        k += 1;
+    for (k, &n) in numbers.iter().enumerate() {
+        end = put_number(out, end, b",", n);
     }
     put_text(out, end, b"\n")
 }
@@ -72,10 +64,8 @@ fn put_pairs(out: &mut [u8; 65536], at: usize, report: Report, inputs: usize, n:
     ensures short { result ≤ at + 32 * n }
 {
     let mut end = at;
-    let mut k = 0;
-    while k < n {
+    for k in 0..n {
         end = put_pair(out, end, inputs, k, report.pairs[k]);
-        k += 1;
     }
     end
 }
@@ -85,8 +75,7 @@ fn put_states(out: &mut [u8; 65536], at: usize, report: Report, n: usize) -> usi
     ensures { Puts (joined (state_line report) n) out.old at out.new result }
 {
     let mut end = at;
-    let mut k = 0;
-    while k < n {
+    for k in 0..n {
         end = put_three(
             out,
             end,
@@ -95,7 +84,6 @@ fn put_states(out: &mut [u8; 65536], at: usize, report: Report, n: usize) -> usi
             report.dwell[k],
             report.entries[k],
         );
-        k += 1;
     }
     end
 }
@@ -113,8 +101,8 @@ pub fn write(report: Report, out: &mut [u8; 65536]) -> usize
     ensures puts { Puts (sheet_of report) out.old 0 out.new result }
     ensures counts { IsPrefixLen result out.new }
 {
-    let states = least(report.table[3] as usize, 32);
-    let inputs = least(report.table[4] as usize, 32);
+    let states = usize::from(report.table[3].min(32));
+    let inputs = usize::from(report.table[4].min(32));
     let at = put_journals(out, report.journals);
     let at = put_pairs(out, at, report, inputs, states * inputs);
     put_states(out, at, report, states)
@@ -128,10 +116,7 @@ fn put_byte(out: &mut [u8; 65536], at: usize, b: u8) -> usize
     if b == b'"' {
         return put_text(out, at, &[b, b]);
     }
-    if b < 32 {
-        return put_text(out, at, b"?");
-    }
-    if b == 127 {
+    if b.is_ascii_control() {
         return put_text(out, at, b"?");
     }
     put_text(out, at, &[b])
@@ -142,12 +127,10 @@ fn put_name(out: &mut [u8; 65536], at: usize, name: &[u8]) -> usize
     ensures puts { Puts (quoted name.now) out.old at out.new result }
     ensures short { result ≤ at + 8192 }
 {
-    let n = least(name.len(), LONGEST_NAME);
+    let n = name.len().min(LONGEST_NAME);
     let mut end = at;
-    let mut k = 0;
-    while k < n {
-        end = put_byte(out, end, name[k]);
-        k += 1;
+    for &byte in &name[..n] {
+        end = put_byte(out, end, byte);
     }
     end
 }
@@ -168,5 +151,5 @@ pub fn write_refused(name: &[u8], number: u32, place: usize, out: &mut [u8; 6553
     ensures counts { IsPrefixLen result out.new }
 {
     let at = put_refused(out, name);
-    put_numbers(out, at, &[number as u64, place as u64])
+    put_numbers(out, at, &[u64::from(number), place as u64])
 }

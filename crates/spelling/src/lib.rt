@@ -5,125 +5,137 @@
 //   AT=end   the bytes end at AT
 #![tactic(auto)]
 
+ghost use Rattle.std.specs.Prelude.{◌≡◌, ◌+◌, ◌≤◌, IfOk};
+ghost use Rattle.arrayvec.specs.ArrayVec.{array_vec_len};
+
 pub mod words;
 
-use words::{Reading, find};
+use arrayvec::ArrayVec;
+use words::{digit, is_space, number, split_once};
 
-// One byte more than a journal may have.
-pub type Room = [u8; 65537];
+// A line spells at most one byte more than a journal may have.
+pub type Bytes = ArrayVec<u8, 65537>;
 
-pub fn filled(room: &Room, size: usize) -> &[u8] {
-    words::before(room, size)
+// Of a text that cannot be understood.
+#[derive(Clone, Copy, Debug, PartialEq, Eq)]
+pub struct Unclear;
+
+// One byte, over another or after all others. Gives the place after it.
+fn put_byte(byte: u8, bytes: &mut Bytes, at: usize) -> Result<usize, Unclear>
+    requires { at ≤ array_vec_len bytes.old }
+    ensures grows { array_vec_len bytes.old ≤ array_vec_len bytes.new }
+    ensures next { IfOk result (λ end. end ≡ at + 1) }
+    ensures within { IfOk result (λ end. end ≤ array_vec_len bytes.new) }
+{
+    if at < bytes.len() {
+        bytes.as_mut_slice()[at] = byte;
+    } else {
+        bytes.try_push(byte).map_err(|_| Unclear)?;
+    }
+    Ok(at + 1)
 }
 
-// The bytes that the digits spell, from `at` on. Read is where they end.
-fn put(digits: &[u8], room: &mut Room, at: usize) -> Reading {
+// The bytes that the digits spell, from a place on. Gives where they end.
+fn put(digits: &[u8], bytes: &mut Bytes, at: usize) -> Result<usize, Unclear>
+    requires { at ≤ array_vec_len bytes.old }
+    ensures grows { array_vec_len bytes.old ≤ array_vec_len bytes.new }
+    ensures within { IfOk result (λ end. end ≤ array_vec_len bytes.new) }
+{
     let mut end = at;
-    let mut n = 0;
-    while n + 1 < digits.len() {
-        let high = words::digit(digits[n]);
-        let low = words::digit(digits[n + 1]);
-        if high > 15 || low > 15 || end >= 65537 {
-            return Reading::Unclear;
-        }
-        room[end] = high * 16 + low;
-        end += 1;
-        n += 2;
-    }
-    if n < digits.len() {
-        return Reading::Unclear;
-    }
-    Reading::Number(end)
-}
-
-// The bytes between two places again and again, until they stand there so many times. Read is where they end.
-fn repeat(times: usize, room: &mut Room, from: usize, to: usize) -> Reading {
-    if to <= from || times == 0 {
-        return Reading::Unclear;
-    }
-    let count = to - from;
-    let mut end = to;
-    while (end - from) / count < times {
-        if end >= 65537 {
-            return Reading::Unclear;
-        }
-        room[end] = room[end - count];
-        end += 1;
-    }
-    Reading::Number(end)
-}
-
-// What changes among the first `size` bytes. Read is how many there are then.
-fn change(at: &[u8], digits: &[u8], room: &mut Room, size: usize) -> Reading {
-    let Reading::Number(at) = words::number(at) else {
-        return Reading::Unclear;
-    };
-    if at > size {
-        return Reading::Unclear;
-    }
-    if check::same(digits, b"end") {
-        return Reading::Number(at);
-    }
-    let Reading::Number(end) = put(digits, room, at) else {
-        return Reading::Unclear;
-    };
-    if end > size {
-        return Reading::Unclear;
-    }
-    Reading::Number(size)
-}
-
-// One word, where `size` bytes stand already.
-fn add_word(word: &[u8], room: &mut Room, size: usize) -> Reading {
-    let equals = find(word, 0, word.len(), b'=');
-    if equals < word.len() {
-        return change(
-            words::before(word, equals),
-            words::after(word, equals),
-            room,
-            size,
-        );
-    }
-    let star = find(word, 0, word.len(), b'*');
-    if star == word.len() {
-        return put(word, room, size);
-    }
-    let Reading::Number(times) = words::number(words::before(word, star)) else {
-        return Reading::Unclear;
-    };
-    let Reading::Number(end) = put(words::after(word, star), room, size) else {
-        return Reading::Unclear;
-    };
-    repeat(times, room, size, end)
-}
-
-// All words. Read is how many bytes stand then in the room.
-pub fn add(line: &[u8], room: &mut Room, size: usize) -> Reading {
-    let mut size = size;
-    let mut rest = line;
-    while rest.len() > 0 {
-        let Reading::Number(more) = add_word(words::first_word(rest), room, size) else {
-            return Reading::Unclear;
+    for pair in digits.chunks(2) {
+        let [high, low] = pair else {
+            return Err(Unclear);
         };
-        size = more;
-        let next = words::after_word(rest);
-        rest = next;
+        end = put_byte(digit(*high)? * 16 + digit(*low)?, bytes, end)?;
     }
-    Reading::Number(size)
+    Ok(end)
+}
+
+// The bytes between two places again and again, until they stand there so many times. Gives where they end.
+fn repeat(times: usize, bytes: &mut Bytes, from: usize, to: usize) -> Result<usize, Unclear>
+    requires { to ≤ array_vec_len bytes.old }
+    ensures { IfOk result (λ end. end ≤ array_vec_len bytes.new) }
+{
+    let count = to.saturating_sub(from);
+    if count == 0 || times == 0 {
+        return Err(Unclear);
+    }
+    let mut at = to;
+    for _ in 0..(times - 1).saturating_mul(count) {
+        at = put_byte(bytes[at - count], bytes, at)?;
+    }
+    Ok(at)
+}
+
+// What changes among the first `size` bytes. Gives how many there are then.
+fn change(at: &[u8], digits: &[u8], bytes: &mut Bytes, size: usize) -> Result<usize, Unclear>
+    requires { size ≤ array_vec_len bytes.old }
+    ensures { IfOk result (λ end. end ≤ array_vec_len bytes.new) }
+{
+    let at = number(at)?;
+    if at > size {
+        return Err(Unclear);
+    }
+    if digits == b"end".as_slice() {
+        return Ok(at);
+    }
+    if put(digits, bytes, at)? > size {
+        return Err(Unclear);
+    }
+    Ok(size)
+}
+
+// One word, where `size` bytes stand already. Gives how many there are then.
+fn add_word(word: &[u8], bytes: &mut Bytes, size: usize) -> Result<usize, Unclear>
+    requires { size ≤ array_vec_len bytes.old }
+    ensures { IfOk result (λ end. end ≤ array_vec_len bytes.new) }
+{
+    if let Some((at, digits)) = split_once(word, b'=') {
+        return change(at, digits, bytes, size);
+    }
+    let Some((times, digits)) = split_once(word, b'*') else {
+        return put(word, bytes, size);
+    };
+    let times = number(times)?;
+    let end = put(digits, bytes, size)?;
+    repeat(times, bytes, size, end)
+}
+
+// All words of a line. Where one cannot be understood, every byte that the words before it spelled stays, past an `end` too.
+pub fn add(line: &[u8], bytes: &mut Bytes) -> Result<(), Unclear> {
+    let mut size = bytes.len();
+    for word in line.split(|&byte| is_space(byte)) {
+        size = add_word(word, bytes, size)?;
+    }
+    bytes.truncate(size);
+    Ok(())
 }
 
 // A case is a name, and after a colon what it changes.
 pub fn name(case: &[u8]) -> &[u8] {
-    words::before(case, find(case, 0, case.len(), b':'))
+    match split_once(case, b':') {
+        Some((name, _)) => name,
+        None => case,
+    }
 }
 
 // The bytes of a case: its own copy of those that it starts from, changed.
-pub fn of_case(case: &[u8], start: &[u8], room: &mut Room) -> Reading {
-    if start.len() > 65537 {
-        return Reading::Unclear;
+pub fn of_case(case: &[u8], start: &[u8]) -> Result<Bytes, Unclear> {
+    let mut bytes = Bytes::try_from(start).map_err(|_| Unclear)?;
+    if let Some((_, changes)) = split_once(case, b':') {
+        add(changes, &mut bytes)?;
     }
-    let size = start.len();
-    room[..size].copy_from_slice(start);
-    let colon = find(case, 0, case.len(), b':');
-    add(words::after(case, colon), room, size)
+    Ok(bytes)
+}
+
+#[cfg(test)]
+mod tests {
+    use super::*;
+
+    #[test]
+    fn spells_a_case(rt: HostRuntime) -> Result<(), Unclear> {
+        let bytes = of_case(b"case: 0A 2*0B0C 1=FF 4=end", b"\x01")?;
+        assert_eq!(rt; bytes.as_slice(), b"\x01\xff\x0b\x0c".as_slice());
+        Ok(())
+    }
 }

@@ -1,104 +1,100 @@
 // Lines of text, the words of a line, and the numbers among them.
-ghost use Rattle.std.specs.Prelude.{◌≡◌, ℕ, ◌-◌, ◌<◌, ◌≤◌, ◌≢◌, length, slice_index};
+ghost use Rattle.std.specs.Prelude.{◌≡◌, ◌-◌, ◌<◌, ◌≤◌, ◌≢◌, ◌↔◌, ◌∷◌, ◌++◌, length, All, IfOk, IfSome, IsNone};
+ghost use Rattle.std.specs.Iterator.{at_most};
 
-// A number, unless what was read cannot be understood.
-#[derive(Clone, Copy)]
-pub enum Reading {
-    Number(usize),
-    Unclear,
+use crate::Unclear;
+
+// What stands before the first such byte, and what stands after it.
+pub fn split_once(text: &[u8], byte: u8) -> Option<(&[u8], &[u8])>
+    ensures parts { IfSome result (λ p. text.now ≡ p.0.now ++ byte ∷ p.1.now) }
+    ensures first { IfSome result (λ p. All (λ b. b ≢ byte) p.0.now) }
+    ensures none { IsNone result → All (λ b. b ≢ byte) text.now }
+{
+    let at = text.iter().position(|&b| b == byte)?;
+    Some((&text[..at], &text[at + 1..]))
 }
 
-// The first place from `from` on, and before `to`, where the byte stands; `to` where there is none.
-pub fn find(text: &[u8], from: usize, to: usize, byte: u8) -> usize
-    requires from_to { from ≤ to }
-    requires within { to ≤ length text.now }
-    ensures low { from ≤ result }
-    ensures high { result ≤ to }
-    ensures before { (k : ℕ) → from ≤ k → k < result → slice_index text.now k ≢ byte }
-    ensures found { result < to → slice_index text.now result ≡ byte }
-{
-    let mut n = from;
-    while n < to {
-        if text[n] == byte {
-            return n;
+// The lines of a text, without their ends. A line that begins with a space goes on the one before it.
+#[derive(Clone, Copy, Debug, PartialEq, Eq)]
+pub struct Lines<'a> {
+    pub rest: &'a [u8],
+}
+
+impl<'a> Lines<'a> {
+    pub fn new(text: &'a [u8]) -> Lines<'a>
+        ensures { result.rest.now ≡ text.now }
+    {
+        Lines { rest: text }
+    }
+}
+
+impl<'a> Iterator for Lines<'a> {
+    type Item = &'a [u8];
+
+    ghost remaining = { λ s. at_most (length s.rest.now) };
+
+    fn next(&mut self) -> Option<&'a [u8]> {
+        if self.rest.is_empty() {
+            return None;
         }
-        n += 1;
+        let (line, rest) = split_line(self.rest);
+        self.rest = rest;
+        Some(line)
     }
-    n
 }
 
-// What stands before a place, and what stands after it. A place past the end is the end.
-pub fn before(text: &[u8], at: usize) -> &[u8] {
-    if at < text.len() { &text[0..at] } else { text }
-}
-
-pub fn after(text: &[u8], at: usize) -> &[u8]
-    ensures { length result.now ≤ length text.now - 1 }
+// The first line, and what stands after its end.
+fn split_line(text: &[u8]) -> (&[u8], &[u8])
+    ensures { length result.1.now ≤ length text.now - 1 }
 {
-    if at < text.len() {
-        &text[at + 1..]
-    } else {
-        &text[text.len()..]
-    }
-}
-
-// The length of the first line, without its end. A line that begins with a space goes on the one before it.
-pub fn line_length(text: &[u8]) -> usize {
-    let mut n = 0;
-    while n < text.len() {
-        if text[n] == b'\n' && !goes_on(text, n + 1) {
-            return n;
+    for n in 0..text.len() {
+        if text[n] == b'\n' && !text[n + 1..].starts_with(b" ") {
+            return (&text[..n], &text[n + 1..]);
         }
-        n += 1;
     }
-    n
+    (text, &[])
 }
 
-fn goes_on(text: &[u8], at: usize) -> bool {
-    at < text.len() && text[at] == b' '
+// A word ends at a space or a line end.
+pub(crate) fn is_space(byte: u8) -> bool {
+    byte == b' ' || byte == b'\n'
 }
 
-// The length of the first word: it ends at a space or a line end.
-fn word_length(line: &[u8]) -> usize {
-    let space = find(line, 0, line.len(), b' ');
-    find(line, 0, space, b'\n')
-}
-
-pub fn first_word(line: &[u8]) -> &[u8] {
-    before(line, word_length(line))
-}
-
-pub fn after_word(line: &[u8]) -> &[u8]
-    ensures { length result.now ≤ length line.now - 1 }
+// The first word, and what stands after it.
+pub fn split_word(line: &[u8]) -> (&[u8], &[u8])
+    ensures { length result.1.now ≤ length line.now - 1 }
 {
-    after(line, word_length(line))
+    match line.iter().position(|&byte| is_space(byte)) {
+        Some(at) => (&line[..at], &line[at + 1..]),
+        None => (line, &[]),
+    }
 }
 
-// The value of a digit, of ten or of sixteen; 16 for any other byte.
-pub fn digit(byte: u8) -> u8
-    ensures { result ≤ 16 }
+// The value of a digit, of ten or of sixteen.
+pub fn digit(byte: u8) -> Result<u8, Unclear>
+    ensures { IfOk result (λ value. value < 16) }
 {
     match byte {
-        b'0'..=b'9' => byte - b'0',
-        b'A'..=b'F' => byte - b'A' + 10,
-        _ => 16,
+        b'0'..=b'9' => Ok(byte - b'0'),
+        b'A'..=b'F' => Ok(byte - b'A' + 10),
+        _ => Err(Unclear),
     }
 }
 
 // A decimal number of at most nine digits.
-pub fn number(word: &[u8]) -> Reading {
-    if word.len() == 0 {
-        return Reading::Unclear;
+pub fn number(word: &[u8]) -> Result<usize, Unclear>
+    ensures { IfOk result (λ n. n < 1000000000) }
+{
+    if word.is_empty() {
+        return Err(Unclear);
     }
-    let mut value: usize = 0;
-    let mut n = 0;
-    while n < word.len() {
-        let digit = digit(word[n]);
+    let mut value = 0usize;
+    for &byte in word {
+        let digit = digit(byte)?;
         if digit > 9 || value > 99999999 {
-            return Reading::Unclear;
+            return Err(Unclear);
         }
-        value = value * 10 + digit as usize;
-        n += 1;
+        value = value * 10 + usize::from(digit);
     }
-    Reading::Number(value)
+    Ok(value)
 }

@@ -3,11 +3,14 @@ use mathlib.Core.Path.{◌≡◌, refl, ◌∙◌}
 use mathlib.Core.List.{List}
 use mathlib.Core.Bool.{Bool, true, false, ◌&&◌, ◌||◌}
 use mathlib.Core.Logic.{◌⊎◌, inl, inr}
-use Prim.Native.Nat.{ℕ, ◌+◌, ◌^◌, ◌<◌, ◌≤◌, max}
+use Prim.Native.Nat.{ℕ, ◌+◌, ◌-◌, ◌^◌, ◌<◌, ◌≤◌, max}
 use native.Mathlib.Nat.{eq-or-lt_of_le}
 use native.Mathlib.Numerals.{add-one}
 use native.Mathlib.Omega.{arith}
 use borrow.Author.Tests.{eq-eqb, ne_eqb, eqb-true, eqb-false, ltb-true}
+use lib.ListN.{length, get_or, take, drop, length-take, length-drop}
+use Rattle.std.proofs.lemmas.List.{get_or-take, get_or-drop}
+use Rattle.std.specs.Prelude.{Ok}
 use Rattle.std.specs.Prelude.{if◌then◌else◌}
 use Rattle.wire.specs.Choice.{◌<?◌, ◌=?◌}
 use Rattle.wire.specs.Turned.{turned32}
@@ -16,8 +19,7 @@ use Rattle.wire.proofs.Turned.{turned_zero}
 use Rattle.sets.specs.Sets.{member, largest, Union}
 use Rattle.sets.proofs.Members.{largest_covers}
 use Rattle.sets.proofs.Turned.{turned_within}
-use Rattle.table.specs.declared.Answer.TheVariants.{Passes}
-use Rattle.table.specs.Check.{word_entry, set_entry}
+use Rattle.table.specs.Check.{byte_entry, word_entry, set_entry}
 use Rattle.table.specs.Inner.{idle_set, Ceiling}
 use Rattle.table.proofs.Rows.{set_passes}
 
@@ -39,6 +41,17 @@ module _ {entry : ℕ → ℕ} {n k top : ℕ} (inv : Largest entry n k top) whe
 
   pub all_seen : n ≤ k → top ≡ largest n (λ _. true) entry
   all_seen h = let e : k ≡ n = omega (arith, inv.low) in rw e at inv.is
+
+-- The entries as a slice of their own.
+module _ (s : List ℕ) (at n : ℕ) (room : at + 3 + n ≤ length s) where
+  same_count : at + 3 + n - (at + 3) ≡ n
+  same_count = omega arith
+
+  pub as_many : length (take (at + 3 + n - (at + 3)) (drop (at + 3) s)) ≡ n
+  as_many = simp (length-take, length-drop) (omega (arith, room))
+
+  pub same_entry : (k : ℕ) → k < n → get_or (take (at + 3 + n - (at + 3)) (drop (at + 3) s)) k 0 ≡ byte_entry s at k
+  same_entry k h = get_or-take (at + 3 + n - (at + 3)) (drop (at + 3) s) k 0 (rw same_count h) ∙ get_or-drop (at + 3) s k 0
 
 pub each_below : (entry : ℕ → ℕ) (n limit top : ℕ) → top ≡ largest n (λ _. true) entry → top < limit → (k : ℕ) → k < n → entry k < limit
 each_below entry n limit top is low k h = omega (arith, largest_covers n (λ _. true) entry k h refl)
@@ -74,9 +87,6 @@ module _ {words : ℕ → ℕ} {n k all : ℕ} (inv : Joined words n k all) wher
       let before : j < k = omega arith in
       turned_within (words j) all (inv.small j before) (inv.members j before)
 
-pub each_within : (words : ℕ → ℕ) (n limit top : ℕ) → Ceiling n words top → top < limit → (k : ℕ) → k < n → words k < limit
-each_within words n limit top over low k h = omega (arith, over k h)
-
 turned_none : turned32 0 ≡ 0
 unfolding turned32
 turned_none = refl
@@ -102,7 +112,7 @@ module _ (old : Bool) (s : List ℕ) (holds at n limit any idle : ℕ)
   none_idle : idle ≡ 0 → (k : ℕ) → k < n → word_entry s holds k ≡ 0 → word_entry s at k ≡ 0
   none_idle e k h none = let l = rw (eq-eqb (word_entry s holds k) 0 none) at (idle_ones k h) in omega arith
 
-  pub sets_pass : ((any <? limit) && (old || (idle =? 0))) ≡ true → (k : ℕ) → k < n → set_entry old s holds at limit k ≡ Passes
+  pub sets_pass : ((any <? limit) && (old || (idle =? 0))) ≡ true → (k : ℕ) → k < n → set_entry old s holds at limit k ≡ Ok tt
   sets_pass e k h =
       let b = both (any <? limit) (old || (idle =? 0)) e in
       set_passes old _ _ limit _ (omega (arith, all k h, ltb-true any limit b.0))

@@ -8,9 +8,8 @@ use native.Mathlib.Nat.{mul-le-mul}
 use native.Mathlib.Omega.{arith}
 use lib.Arith.{digits_lt}
 use lib.ListN.{get_or}
+use Rattle.std.specs.Prelude.{Ok}
 use Rattle.sets.proofs.Members.{member_below}
-use Rattle.table.specs.declared.Answer.TheVariants.{Passes}
-use Rattle.table.specs.Answer.{passes?}
 use Rattle.table.specs.Entries.{filled_to, zeros}
 use Rattle.table.specs.Table.{longest_hold, most_timers, member, hold_of, delayed_of, delays, length_of, in_region, timer_delays, timed_with, Uses, WellFormedBy, WellFormed}
 use Rattle.table.specs.Check.{below, row_answer, byte_entry, bytes_answer, word_entry, words_answer, set_entry, sets_answer, Row}
@@ -27,24 +26,24 @@ use Rattle.table.proofs.Values.{get_or-filled, filled_uses}
 use Rattle.table.proofs.Stands.{CountsFit, HeadStands, HoldsStand, TimersStand, timing_stands, table_stands}
 
 -- Entries that a limit let pass are below it in the array too.
-module _ (s : List ℕ) (row : Row) (refuses : (place : ℕ) → passes? (row.otherwise place) ≡ false) (places : ℕ) (fits : row.entries ≤ places) where
+module _ (s : List ℕ) (row : Row) (places : ℕ) (fits : row.entries ≤ places) where
   abbrev Held : (ℕ → ℕ) → Type 0
   Held entry = (k : ℕ) → k < row.entries → get_or (filled_to entry row.entries (zeros places)) k 0 < row.limit
 
   held_below : (size : ℕ) (entry place : ℕ → ℕ) →
-      row_answer s row.at row.tag size (below row.limit entry (λ k. row.otherwise (place k))) row.entries ≡ Passes → Held entry
+      row_answer s row.at row.tag size (below row.limit entry (λ k. row.otherwise (place k))) row.entries ≡ Ok tt → Held entry
   held_below size entry place e k h =
-      rw (get_or-filled entry row.entries places fits k h) (limited row.limit entry _ k (refuses (place k)) (row_each s row.at row.tag size _ row.entries e k h))
+      rw (get_or-filled entry row.entries places fits k h) (limited row.limit entry _ k (row_each s row.at row.tag size _ row.entries e k h))
 
-  bytes_below : bytes_answer s row ≡ Passes → Held (byte_entry s row.at)
+  bytes_below : bytes_answer s row ≡ Ok tt → Held (byte_entry s row.at)
   bytes_below = held_below row.entries (byte_entry s row.at) (λ k. row.at + 3 + k)
 
-  words_below : words_answer s row ≡ Passes → Held (word_entry s row.at)
+  words_below : words_answer s row ≡ Ok tt → Held (word_entry s row.at)
   words_below = held_below (4 * row.entries) (word_entry s row.at) (λ k. row.at + 3 + 4 * k)
 
 -- Delayed sets that passed, as the arrays have them.
-module _ (old : Bool) (s : List ℕ) (holds at n limit places : ℕ) (fits : n ≤ places) (e : sets_answer old s holds at n limit ≡ Passes) where
-  passes_set : (k : ℕ) → k < n → set_entry old s holds at limit k ≡ Passes
+module _ (old : Bool) (s : List ℕ) (holds at n limit places : ℕ) (fits : n ≤ places) (e : sets_answer old s holds at n limit ≡ Ok tt) where
+  passes_set : (k : ℕ) → k < n → set_entry old s holds at limit k ≡ Ok tt
   passes_set = row_each s at 0x06 (4 * n) _ n e
 
   set_below : (k : ℕ) → k < n → get_or (filled_to (word_entry s at) n (zeros places)) k 0 < limit
@@ -58,7 +57,7 @@ module _ (old : Bool) (s : List ℕ) (holds at n limit places : ℕ) (fits : n �
       rw (get_or-filled (word_entry s at) n places fits k h) (set_not_idle _ _ limit _ passed hold)
 
 -- Timers that passed, as the array has them.
-module _ (s : List ℕ) (at n limit : ℕ) (few : n ≤ 4) (e : timers_row s at n limit ≡ Passes) where
+module _ (s : List ℕ) (at n limit : ℕ) (few : n ≤ 4) (e : timers_row s at n limit ≡ Ok tt) where
   abbrev told : ℕ → ℕ
   told k = get_or (filled_to (word_entry s at) (2 * n) (zeros 8)) k 0
 
@@ -90,7 +89,7 @@ module _ (old : Bool) (s : List ℕ) (c : Counts) (fit : CountsFit c) where
   with_holds stands =
       let few = fit.states.1 in
       record {
-        hold = λ q h. let b = words_below s (hold_row c) (λ place. refl) 32 few stands.holds q h in omega arith;
+        hold = λ q h. let b = words_below s (hold_row c) 32 few stands.holds q h in omega arith;
         delayed = λ q i h m.
             member_below _ c.inputs i (set_below old s (hold_field c) (delayed_field c) c.states (2 ^ c.inputs) 32 few stands.delayed q h) m;
         not_idle = never_idle old s (hold_field c) (delayed_field c) c.states (2 ^ c.inputs) 32 few stands.delayed;
@@ -125,10 +124,10 @@ module _ (old : Bool) (s : List ℕ) (c : Counts) (fit : CountsFit c) where
           region = λ k q h m. member_below _ c.states q (each k h).2 m;
           sets = λ k q i hk hq m.
               member_below _ c.inputs i
-              (words_below s (timer_set_row c (timer_set_field c n) n) (λ place. refl) 128 many stands.sets (q * n + k) (digits_lt hq hk)) m;
+              (words_below s (timer_set_row c (timer_set_field c n) n) 128 many stands.sets (q * n + k) (digits_lt hq hk)) m;
         }
 
-  timed_in : timing_answer old c s ≡ Passes → Timed old (table_of c s)
+  timed_in : timing_answer old c s ≡ Ok tt → Timed old (table_of c s)
   timed_in e = ⊎_elim
       (λ stands. rw stands.none (with_holds stands))
       (λ found. rw found.1.some (with_timers _ found.0 found.1))
@@ -157,9 +156,9 @@ made_well old s c n head timed =
       outputs = fit.outputs;
       initial = fit.initial;
       bound = head.bound;
-      output = bytes_below s (output_row c) (λ place. refl) 32 few head.outputs;
+      output = bytes_below s (output_row c) 32 few head.outputs;
       next = λ q i hq hi.
-          bytes_below s (next_row c) (λ place. refl) 1024 many head.next (q * c.inputs + i) (digits_lt hq hi);
+          bytes_below s (next_row c) 1024 many head.next (q * c.inputs + i) (digits_lt hq hi);
       hold = timed.hold;
       delayed = timed.delayed;
       not_idle = timed.not_idle;
@@ -206,10 +205,10 @@ retimed t ok hold delayed timers timing sets timed hold_uses delayed_uses timing
   sets_uses = sets_uses;
 }
 
-pub well_formed_by : (old : Bool) (s : List ℕ) → answer_by old s ≡ Passes → WellFormedBy old (table_in s)
+pub well_formed_by : (old : Bool) (s : List ℕ) → answer_by old s ≡ Ok tt → WellFormedBy old (table_in s)
 well_formed_by old s e =
     let stands = table_stands old s e in
     made_well old s (counts_in s) (timers_in (counts_in s) s) stands.0 (timed_in old s (counts_in s) stands.0.counts stands.1)
 
-pub well_formed : (s : List ℕ) → table_answer s ≡ Passes → WellFormed (table_in s)
+pub well_formed : (s : List ℕ) → table_answer s ≡ Ok tt → WellFormed (table_in s)
 well_formed = well_formed_by false

@@ -1,18 +1,17 @@
 -- The table check: docs/RULES.md, "Tables" and "Refusals". Fields in file order, each for 1, then for 2, then for what is in it; 8 last.
 -- The check of old tables is the same but for 11 and for timers, which it does not know: `old` says which of the two is meant.
-use Rattle.std.specs.Prelude.{List, Bool, true, false, not, ◌&&◌, ◌||◌, ℕ, ◌+◌, ◌*◌, ◌/◌, ◌^◌, length, if◌then◌else◌}
+use Rattle.std.specs.Prelude.{List, Bool, true, false, not, ◌&&◌, ◌||◌, ℕ, ◌+◌, ◌*◌, ◌/◌, ◌^◌, length, Option, Some, None, Err, if◌then◌else◌}
 use Rattle.wire.specs.Choice.{◌<?◌, ◌≤?◌, ◌=?◌}
 use Rattle.wire.specs.Field.{byte_at, number16_at, number32_at, field_at}
 use Rattle.wire.specs.declared.Field.{Field}
-use Rattle.wire.specs.declared.Field.TheVariants.{Whole, RunOut}
-use Rattle.table.specs.declared.Answer.{Answer}
-use Rattle.table.specs.declared.Answer.TheVariants.{RunsOut, WrongTagOrLength, CountOutOfRange, BoundOutOfRange}
-use Rattle.table.specs.declared.Answer.TheVariants.{EntryOutOfRange, HoldTooLong, UnknownInputDelayed, IdleSet}
-use Rattle.table.specs.declared.Answer.TheVariants.{UnknownMember, TimerOutOfRange, BytesAfter}
+use Rattle.table.specs.declared.Refusal.{Refusal}
+use Rattle.table.specs.declared.Refusal.TheVariants.{RunsOut, WrongTagOrLength, CountOutOfRange, BoundOutOfRange}
+use Rattle.table.specs.declared.Refusal.TheVariants.{EntryOutOfRange, HoldTooLong, UnknownInputDelayed, IdleSet}
+use Rattle.table.specs.declared.Refusal.TheVariants.{UnknownMember, TimerOutOfRange, BytesAfter}
 use Rattle.table.specs.declared.Counts.{Counts}
 use Rattle.table.specs.declared.Table.{Table}
 use Rattle.table.specs.Table.{largest_bound, longest_hold, most_timers}
-use Rattle.table.specs.Answer.{◌or_else◌, ◌and_then◌}
+use Rattle.table.specs.Answer.{TableAnswer, ◌or_else◌, ◌and_then◌}
 use Rattle.table.specs.Entries.{entries_from, filled_to, zeros}
 
 abbrev pub is_between : ℕ → ℕ → ℕ → Bool
@@ -21,15 +20,15 @@ is_between low high x = (low ≤? x) && (x ≤? high)
 -- ---- A field, and a field of entries
 
 -- 1, then 2: the field that starts at `at` is whole, and has this tag and length.
-unfoldable pub expected_field : Field → (at tag size : ℕ) → Answer
-expected_field RunOut at tag size = RunsOut at
-expected_field (Whole found claimed) at tag size = (found =? tag) && (claimed =? size) or_else WrongTagOrLength at
+unfoldable pub expected_field : Option Field → (at tag size : ℕ) → TableAnswer
+expected_field None at tag size = Err (RunsOut at)
+expected_field (Some found) at tag size = (found.tag =? tag) && (found.size =? size) or_else WrongTagOrLength at
 
-unfoldable pub field_answer : List ℕ → (at tag size : ℕ) → Answer
+unfoldable pub field_answer : List ℕ → (at tag size : ℕ) → TableAnswer
 field_answer s at tag size = expected_field (field_at s at) at tag size
 
 -- First the field, then its n entries in order.
-unfoldable pub row_answer : List ℕ → (at tag size : ℕ) → (entry : ℕ → Answer) → (n : ℕ) → Answer
+unfoldable pub row_answer : List ℕ → (at tag size : ℕ) → (entry : ℕ → TableAnswer) → (n : ℕ) → TableAnswer
 row_answer s at tag size entry n = field_answer s at tag size and_then entries_from entry n 0
 
 -- Entry k of the field that starts at `at`, where each has one byte, and where each has four.
@@ -45,18 +44,18 @@ pub record Row : Type 0 where
   pub tag : ℕ
   pub entries : ℕ
   pub limit : ℕ
-  pub otherwise : (place : ℕ) → Answer
+  pub otherwise : (place : ℕ) → Refusal
 
-unfoldable pub below : ℕ → (ℕ → ℕ) → (ℕ → Answer) → ℕ → Answer
+unfoldable pub below : ℕ → (ℕ → ℕ) → (ℕ → Refusal) → ℕ → TableAnswer
 below limit entry otherwise k = entry k <? limit or_else otherwise k
 
 -- Numbers of one byte, and of four.
-abbrev pub bytes_answer : List ℕ → Row → Answer
+abbrev pub bytes_answer : List ℕ → Row → TableAnswer
 bytes_answer s row =
     row_answer s row.at row.tag row.entries
     (below row.limit (byte_entry s row.at) (λ k. row.otherwise (row.at + 3 + k))) row.entries
 
-abbrev pub words_answer : List ℕ → Row → Answer
+abbrev pub words_answer : List ℕ → Row → TableAnswer
 words_answer s row =
     row_answer s row.at row.tag (4 * row.entries)
     (below row.limit (word_entry s row.at) (λ k. row.otherwise (row.at + 3 + 4 * k))) row.entries
@@ -85,13 +84,13 @@ abbrev pub counts_in_range : Counts → Bool
 counts_in_range c =
     is_between 1 32 c.states && is_between 1 32 c.inputs && is_between 1 32 c.outputs && (c.initial <? c.states)
 
-unfoldable pub counts_answer : List ℕ → Answer
+unfoldable pub counts_answer : List ℕ → TableAnswer
 counts_answer s = field_answer s counts_field 0x01 4 and_then counts_in_range (counts_in s) or_else CountOutOfRange counts_field
 
 abbrev pub bound_in : List ℕ → ℕ
 bound_in s = word_entry s bound_field 0
 
-unfoldable pub bound_answer : List ℕ → Answer
+unfoldable pub bound_answer : List ℕ → TableAnswer
 bound_answer s = field_answer s bound_field 0x02 4 and_then is_between 1 largest_bound (bound_in s) or_else BoundOutOfRange bound_field
 
 -- ---- Fields 03 and 04
@@ -121,20 +120,20 @@ abbrev pub hold_row : Counts → Row
 hold_row c = record { at = hold_field c; tag = 0x05; entries = c.states; limit = longest_hold + 1; otherwise = HoldTooLong }
 
 -- A delayed set: 7, then 11, since a set on a state that has no hold does nothing.
-unfoldable pub set_answer : (old : Bool) → (hold set limit place : ℕ) → Answer
+unfoldable pub set_answer : (old : Bool) → (hold set limit place : ℕ) → TableAnswer
 set_answer old hold set limit place =
     set <? limit or_else UnknownInputDelayed place
     and_then old || (0 <? hold) || (set =? 0) or_else IdleSet place
 
 -- The set of a state, with the state's hold, where `holds` and `at` are the places of the two fields.
-abbrev pub set_entry : (old : Bool) → List ℕ → (holds at limit state : ℕ) → Answer
+abbrev pub set_entry : (old : Bool) → List ℕ → (holds at limit state : ℕ) → TableAnswer
 set_entry old s holds at limit state = set_answer old (word_entry s holds state) (word_entry s at state) limit (at + 3 + 4 * state)
 
-abbrev pub sets_answer : (old : Bool) → List ℕ → (holds at states limit : ℕ) → Answer
+abbrev pub sets_answer : (old : Bool) → List ℕ → (holds at states limit : ℕ) → TableAnswer
 sets_answer old s holds at states limit = row_answer s at 0x06 (4 * states) (set_entry old s holds at limit) states
 
 -- Both, and the bytes after them. A set of inputs below I is a number below 2 ^ I.
-unfoldable pub holds_answer : (old : Bool) → Counts → List ℕ → Answer
+unfoldable pub holds_answer : (old : Bool) → Counts → List ℕ → TableAnswer
 holds_answer old c s =
     words_answer s (hold_row c)
     and_then sets_answer old s (hold_field c) (delayed_field c) c.states (2 ^ c.inputs)
@@ -143,15 +142,15 @@ holds_answer old c s =
 -- ---- Fields 07 and 08, of a table with timers
 
 -- A timer, a length and a region, which is a set of states: 13 at the length, then 12 at the region.
-unfoldable pub timer_answer : (length region limit place : ℕ) → Answer
+unfoldable pub timer_answer : (length region limit place : ℕ) → TableAnswer
 timer_answer length region limit place =
     is_between 1 longest_hold length or_else TimerOutOfRange place
     and_then region <? limit or_else UnknownMember (place + 4)
 
-abbrev pub timer_entry : List ℕ → (at limit k : ℕ) → Answer
+abbrev pub timer_entry : List ℕ → (at limit k : ℕ) → TableAnswer
 timer_entry s at limit k = timer_answer (word_entry s at (2 * k)) (word_entry s at (2 * k + 1)) limit (at + 3 + 8 * k)
 
-abbrev pub timers_row : List ℕ → (at n limit : ℕ) → Answer
+abbrev pub timers_row : List ℕ → (at n limit : ℕ) → TableAnswer
 timers_row s at n limit = row_answer s at 0x07 (8 * n) (timer_entry s at limit) n
 
 -- Field 08 after n timers: a set of inputs for each state and timer.
@@ -162,14 +161,14 @@ abbrev pub timer_set_row : Counts → (at n : ℕ) → Row
 timer_set_row c at n = record { at = at; tag = 0x08; entries = c.states * n; limit = 2 ^ c.inputs; otherwise = UnknownMember }
 
 -- Field 08, which starts at `at`, and the bytes after it.
-unfoldable pub timer_sets_answer : Counts → (at n : ℕ) → List ℕ → Answer
+unfoldable pub timer_sets_answer : Counts → (at n : ℕ) → List ℕ → TableAnswer
 timer_sets_answer c at n s =
     let end = at + 3 + 4 * (c.states * n) in
     words_answer s (timer_set_row c at n)
     and_then length s ≤? end or_else BytesAfter end
 
 -- Both, with as many timers as field 07 has room for.
-unfoldable pub timers_answer : Counts → (n : ℕ) → List ℕ → Answer
+unfoldable pub timers_answer : Counts → (n : ℕ) → List ℕ → TableAnswer
 timers_answer c n s =
     is_between 1 most_timers n or_else WrongTagOrLength (hold_field c)
     and_then timers_row s (hold_field c) n (2 ^ c.states)
@@ -178,9 +177,9 @@ timers_answer c n s =
 -- ---- The whole table
 
 -- The kind of a table goes by the tag of its fifth field. The old rules know one kind.
-unfoldable pub tagged : Field → Bool
-tagged RunOut = false
-tagged (Whole tag size) = tag =? 0x07
+unfoldable pub tagged : Option Field → Bool
+tagged None = false
+tagged (Some found) = found.tag =? 0x07
 
 abbrev pub timed : Counts → List ℕ → Bool
 timed c s = tagged (field_at s (hold_field c))
@@ -188,20 +187,20 @@ timed c s = tagged (field_at s (hold_field c))
 abbrev pub claimed_timers : Counts → List ℕ → ℕ
 claimed_timers c s = number16_at s (hold_field c + 1) / 8
 
-unfoldable pub timing_answer : (old : Bool) → Counts → List ℕ → Answer
+unfoldable pub timing_answer : (old : Bool) → Counts → List ℕ → TableAnswer
 timing_answer old c s = if not old && timed c s then timers_answer c (claimed_timers c s) s else holds_answer old c s
 
-unfoldable pub entries_answer : (old : Bool) → Counts → List ℕ → Answer
+unfoldable pub entries_answer : (old : Bool) → Counts → List ℕ → TableAnswer
 entries_answer old c s = bytes_answer s (output_row c) and_then bytes_answer s (next_row c) and_then timing_answer old c s
 
-unfoldable pub answer_by : (old : Bool) → List ℕ → Answer
+unfoldable pub answer_by : (old : Bool) → List ℕ → TableAnswer
 answer_by old s = counts_answer s and_then bound_answer s and_then entries_answer old (counts_in s) s
 
-abbrev pub table_answer : List ℕ → Answer
+abbrev pub table_answer : List ℕ → TableAnswer
 table_answer = answer_by false
 
 -- By the old rules, before 11.
-abbrev pub old_answer : List ℕ → Answer
+abbrev pub old_answer : List ℕ → TableAnswer
 old_answer = answer_by true
 
 -- ---- The table as one value

@@ -1,12 +1,10 @@
 -- The entries of a field: checked in order, and held in an array.
-use Rattle.std.specs.Prelude.{List, [], ◌∷◌, ◌++◌, ℕ, zero, suc, ◌+◌, ◌-◌, length, drop, replicate}
-use Rattle.table.specs.declared.Answer.{Answer}
-use Rattle.table.specs.declared.Answer.TheVariants.{Passes}
-use Rattle.table.specs.Answer.{◌and_then◌}
+use Rattle.std.specs.Prelude.{List, [], ◌∷◌, ◌++◌, ℕ, zero, suc, ◌+◌, ◌-◌, length, drop, replicate, Ok}
+use Rattle.table.specs.Answer.{TableAnswer, ◌and_then◌}
 
 -- Entries i, i + 1, .., i + n - 1, of which each passes or is what a bad one is called: the first bad one gives the answer.
-unfoldable pub entries_from : (ℕ → Answer) → ℕ → ℕ → Answer
-entries_from entry zero i = Passes
+unfoldable pub entries_from : (ℕ → TableAnswer) → ℕ → ℕ → TableAnswer
+entries_from entry zero i = Ok tt
 entries_from entry (suc n) i = entry i and_then entries_from entry n (i + 1)
 
 -- f 0, f 1, .., f (n - 1)

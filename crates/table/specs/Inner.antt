@@ -1,8 +1,8 @@
 -- What the inner functions of the table check are told and find, which go by places and tags: a helper of contracts, no rule.
 use Rattle.std.specs.Prelude.{◌≡◌, List, ℕ, ◌*◌, ◌<◌, ◌≤◌, if◌then◌else◌}
 use Rattle.wire.specs.Choice.{◌=?◌}
-use Rattle.table.specs.declared.Answer.{Answer}
-use Rattle.table.specs.declared.Answer.TheVariants.{EntryOutOfRange, HoldTooLong, UnknownMember}
+use Rattle.table.specs.declared.Refusal.{Refusal}
+use Rattle.table.specs.declared.Refusal.TheVariants.{EntryOutOfRange, HoldTooLong, UnknownMember}
 use Rattle.table.specs.declared.Counts.{Counts}
 use Rattle.table.specs.declared.Places.{Places}
 use Rattle.table.specs.Check.{Row, word_entry, next_field, hold_field, delayed_field, table_end}
@@ -20,7 +20,7 @@ pub record PlacesOf (c : Counts) (p : Places) : Type 0 where
 abbrev pub byte_row : (at tag n limit : ℕ) → Row
 byte_row at tag n limit = record { at = at; tag = tag; entries = n; limit = limit; otherwise = EntryOutOfRange }
 
-unfoldable pub bad_word : (tag place : ℕ) → Answer
+unfoldable pub bad_word : (tag place : ℕ) → Refusal
 bad_word tag place = if tag =? 0x05 then HoldTooLong place else UnknownMember place
 
 abbrev pub word_row : (at tag n limit : ℕ) → Row

@@ -2,12 +2,11 @@
 // that passed the automaton's table is read as one value; everything above has tables only in this form.
 #![tactic(auto)]
 
-ghost use Rattle.std.specs.Prelude.{◌≡◌, ◌+◌, ◌*◌, ◌<◌, ◌≤◌, length, get_or, if◌then◌else◌};
+ghost use Rattle.std.specs.Prelude.{◌≡◌, ◌+◌, ◌*◌, ◌<◌, ◌≤◌, length, get_or, Ok, if◌then◌else◌};
 ghost use Rattle.wire.specs.Choice.{◌=?◌};
 ghost use Rattle.wire.specs.Field.{field_at};
-ghost use Rattle.wire.specs.Reply.{number_in, place_in};
 ghost use Rattle.table.specs.declared.Counts as declared;
-ghost use Rattle.table.specs.Answer.{reply_of, ◌or_else◌};
+ghost use Rattle.table.specs.Answer.{◌or_else◌};
 ghost use Rattle.table.specs.Entries.{zeros};
 ghost use Rattle.table.specs.Inner.{PlacesOf};
 ghost use Rattle.table.specs.Check.{counts_in, counts_in_range};
@@ -15,12 +14,13 @@ ghost use Rattle.table.specs.Check.{counts_answer, bound_answer, holds_answer, t
 ghost use Rattle.table.specs.Check.{hold_field, entries_answer, answer_by, table_answer, timers_in, table_in};
 
 use sets::set_limit;
-use wire::{Field, number16, number32, wide};
+use wire::{Field, Refused, number16, number32, wide};
 
 mod arrays;
+pub mod checked;
 mod fields;
 
-use arrays::{fill_next, fill_output, fill_sets, fill_state, fill_timing};
+use arrays::{fill_bytes, fill_words};
 use fields::{check_bytes, check_sets, check_timers, check_words, expect_field};
 
 // The largest cycle bound E, and the longest hold.
@@ -30,11 +30,11 @@ pub const LONGEST_HOLD: u32 = 3600000;
 
 pub const MOST_TIMERS: usize = 4;
 
-// A hold that is allowed is below this.
+// A hold that is allowed is below this. By `as`, since a constant calls no `from`.
 const HOLD_LIMIT: u64 = LONGEST_HOLD as u64 + 1;
 
 // Rows of next states have `inputs` entries each: next(q, i) stands at q * inputs + i. Entries that the counts leave unused are 0.
-#[derive(Clone, Copy)]
+#[derive(Clone, Copy, Debug, PartialEq, Eq)]
 pub struct Table {
     pub states: u32,
     pub inputs: u32,
@@ -47,16 +47,15 @@ pub struct Table {
     pub next: [u8; 1024],
     pub hold: [u32; 32],
     pub delayed: [u32; 32],
-    // Of timer k the length at 2 * k, and then the region.
+    // Of timer k the length at 2 * k, and then the region: flat, as every array of a table is (docs/RULES.md, section 17).
     pub timing: [u32; 8],
     // Rows by state: the inputs that timer k delays in state q stand at q * timers + k.
     pub sets: [u32; 128],
 }
 
 // Each refusal holds its place.
-#[derive(Clone, Copy)]
-pub enum Answer {
-    Passes,
+#[derive(Clone, Copy, Debug, PartialEq, Eq)]
+pub enum Refusal {
     RunsOut(usize),
     WrongTagOrLength(usize),
     CountOutOfRange(usize),
@@ -70,8 +69,9 @@ pub enum Answer {
     BytesAfter(usize),
 }
 
-// What field 01 says.
-#[derive(Clone, Copy)]
+// What field 01 says, in any bytes: `counts_in` does not ask whether it is in range, so that this is a clause where it is needed, and no ghost
+// field.
+#[derive(Clone, Copy, Debug, PartialEq, Eq)]
 pub struct Counts {
     pub states: u8,
     pub inputs: u8,
@@ -80,7 +80,7 @@ pub struct Counts {
 }
 
 // How many next states field 04 has, where fields 04, 05 and 06 start, and where the table ends.
-#[derive(Clone, Copy)]
+#[derive(Clone, Copy, Debug, PartialEq, Eq)]
 pub struct Places {
     pub pairs: usize,
     pub next: usize,
@@ -89,52 +89,51 @@ pub struct Places {
     pub end: usize,
 }
 
-impl Answer {
-    // The refusal's number; 0 where the table passes.
-    pub fn number(self) -> u32
-        ensures { result ≡ number_in (reply_of self) }
-    {
+impl Refused for Refusal {
+    ghost use Rattle.table.specs.Answer.{table_refusal, table_ruled};
+
+    ghost refused = { table_refusal };
+
+    ghost ruled = { table_ruled };
+
+    fn number(self) -> u32 {
         match self {
-            Answer::Passes => 0,
-            Answer::RunsOut(_) => 1,
-            Answer::WrongTagOrLength(_) => 2,
-            Answer::CountOutOfRange(_) => 3,
-            Answer::BoundOutOfRange(_) => 4,
-            Answer::EntryOutOfRange(_) => 5,
-            Answer::HoldTooLong(_) => 6,
-            Answer::UnknownInputDelayed(_) => 7,
-            Answer::IdleSet(_) => 11,
-            Answer::UnknownMember(_) => 12,
-            Answer::TimerOutOfRange(_) => 13,
-            Answer::BytesAfter(_) => 8,
+            Refusal::RunsOut(_) => 1,
+            Refusal::WrongTagOrLength(_) => 2,
+            Refusal::CountOutOfRange(_) => 3,
+            Refusal::BoundOutOfRange(_) => 4,
+            Refusal::EntryOutOfRange(_) => 5,
+            Refusal::HoldTooLong(_) => 6,
+            Refusal::UnknownInputDelayed(_) => 7,
+            Refusal::IdleSet(_) => 11,
+            Refusal::UnknownMember(_) => 12,
+            Refusal::TimerOutOfRange(_) => 13,
+            Refusal::BytesAfter(_) => 8,
         }
     }
 
-    pub fn place(self) -> usize
-        ensures { result ≡ place_in (reply_of self) }
-    {
+    fn place(self) -> usize {
         match self {
-            Answer::Passes => 0,
-            Answer::RunsOut(at) => at,
-            Answer::WrongTagOrLength(at) => at,
-            Answer::CountOutOfRange(at) => at,
-            Answer::BoundOutOfRange(at) => at,
-            Answer::EntryOutOfRange(at) => at,
-            Answer::HoldTooLong(at) => at,
-            Answer::UnknownInputDelayed(at) => at,
-            Answer::IdleSet(at) => at,
-            Answer::UnknownMember(at) => at,
-            Answer::TimerOutOfRange(at) => at,
-            Answer::BytesAfter(at) => at,
+            Refusal::RunsOut(at)
+            | Refusal::WrongTagOrLength(at)
+            | Refusal::CountOutOfRange(at)
+            | Refusal::BoundOutOfRange(at)
+            | Refusal::EntryOutOfRange(at)
+            | Refusal::HoldTooLong(at)
+            | Refusal::UnknownInputDelayed(at)
+            | Refusal::IdleSet(at)
+            | Refusal::UnknownMember(at)
+            | Refusal::TimerOutOfRange(at)
+            | Refusal::BytesAfter(at) => at,
         }
     }
 }
 
 // A test that fails turns the table down.
-fn or_else(test: bool, refusal: Answer) -> Answer
+fn or_else(test: bool, refusal: Refusal) -> Result<(), Refusal>
     ensures { result ≡ test or_else refusal }
 {
-    if test { Answer::Passes } else { refusal }
+    if test { Ok(()) } else { Err(refusal) }
 }
 
 pub fn counts_in(s: &[u8]) -> Counts
@@ -160,29 +159,25 @@ fn counts_in_range(c: Counts) -> bool
 }
 
 // Field 01.
-fn check_counts(s: &[u8]) -> Answer
+#[tactic(auto, using(crate::proofs::Answers::passed_up, crate::proofs::Answers::past, crate::proofs::Answers::let_pass, crate::proofs::Rows::field_stands), unfolding(crate::specs::Check::counts_answer))]
+fn check_counts(s: &[u8]) -> Result<(), Refusal>
     ensures { result ≡ counts_answer s.now }
 {
-    let stands = expect_field(s, 0, 0x01, 4);
-    let Answer::Passes = stands else {
-        return stands;
-    };
-    or_else(counts_in_range(counts_in(s)), Answer::CountOutOfRange(0))
+    expect_field(s, 0, 0x01, 4)?;
+    or_else(counts_in_range(counts_in(s)), Refusal::CountOutOfRange(0))
 }
 
 // Field 02.
-fn check_bound(s: &[u8]) -> Answer
+#[tactic(auto, using(crate::proofs::Answers::passed_up, crate::proofs::Answers::past, crate::proofs::Answers::let_pass, crate::proofs::Rows::field_stands), unfolding(crate::specs::Check::bound_answer))]
+fn check_bound(s: &[u8]) -> Result<(), Refusal>
     requires { 7 ≤ length s.now }
     ensures { result ≡ bound_answer s.now }
 {
-    let stands = expect_field(s, 7, 0x02, 4);
-    let Answer::Passes = stands else {
-        return stands;
-    };
+    expect_field(s, 7, 0x02, 4)?;
     let bound = number32(s, 10);
     or_else(
         (1 <= bound) & (bound <= LARGEST_BOUND),
-        Answer::BoundOutOfRange(7),
+        Refusal::BoundOutOfRange(7),
     )
 }
 
@@ -191,14 +186,14 @@ fn pairs_of(c: Counts) -> usize
     requires { (c.states ≤ 32) × (c.inputs ≤ 32) }
     ensures { (result ≡ c.states * c.inputs) × (result ≤ 1024) }
 {
-    (c.states as usize) * (c.inputs as usize)
+    usize::from(c.states) * usize::from(c.inputs)
 }
 
 pub fn places_of(c: Counts) -> Places
     requires { (c.states ≤ 32) × (c.inputs ≤ 32) }
     ensures { PlacesOf c result }
 {
-    let states = c.states as usize;
+    let states = usize::from(c.states);
     let pairs = pairs_of(c);
     let next = 17 + states;
     let hold = next + 3 + pairs;
@@ -213,57 +208,45 @@ pub fn places_of(c: Counts) -> Places
 }
 
 // Fields 05 and 06, and the bytes after them.
-fn check_holds(s: &[u8], c: Counts, p: Places, old: bool) -> Answer
+#[tactic(auto, using(crate::proofs::Answers::passed_up, crate::proofs::Answers::past, crate::proofs::Answers::let_pass, crate::proofs::Rows::row_fits), unfolding(crate::specs::Check::holds_answer, crate::specs::Inner::bad_word))]
+fn check_holds(s: &[u8], c: Counts, p: Places, old: bool) -> Result<(), Refusal>
     requires { PlacesOf c p × (p.hold ≤ length s.now) × (c.states ≤ 32) × (c.inputs ≤ 32) }
     ensures { result ≡ holds_answer old c s.now }
 {
-    let states = c.states as usize;
-    let holds = check_words(s, p.hold, 0x05, states, HOLD_LIMIT);
-    let Answer::Passes = holds else {
-        return holds;
-    };
-    let delayed = check_sets(
+    let states = usize::from(c.states);
+    check_words(s, p.hold, 0x05, states, HOLD_LIMIT)?;
+    check_sets(
         s,
         p.hold,
         p.delayed,
         states,
-        set_limit(c.inputs as u32),
+        set_limit(u32::from(c.inputs)),
         old,
-    );
-    let Answer::Passes = delayed else {
-        return delayed;
-    };
-    or_else(s.len() <= p.end, Answer::BytesAfter(p.end))
+    )?;
+    or_else(s.len() <= p.end, Refusal::BytesAfter(p.end))
 }
 
 // Fields 07 and 08, and the bytes after them, with n timers. Field 07 starts at `at`.
-fn check_timed(s: &[u8], c: Counts, at: usize, n: usize) -> Answer
+#[tactic(auto, using(crate::proofs::Answers::passed_up, crate::proofs::Answers::past, crate::proofs::Answers::let_pass, crate::proofs::Rows::row_fits, crate::proofs::Rows::number_known), unfolding(crate::specs::Check::timers_answer))]
+fn check_timed(s: &[u8], c: Counts, at: usize, n: usize) -> Result<(), Refusal>
     requires { (at ≡ hold_field c) × (at ≤ length s.now) × (c.states ≤ 32) × (c.inputs ≤ 32) }
     ensures { result ≡ timers_answer c n s.now }
 {
-    let number = or_else((1 <= n) & (n <= MOST_TIMERS), Answer::WrongTagOrLength(at));
-    let Answer::Passes = number else {
-        return number;
-    };
-    let timers = check_timers(s, at, n, set_limit(c.states as u32));
-    let Answer::Passes = timers else {
-        return timers;
-    };
+    or_else((1 <= n) & (n <= MOST_TIMERS), Refusal::WrongTagOrLength(at))?;
+    check_timers(s, at, n, set_limit(u32::from(c.states)))?;
     check_timer_sets(s, c, at + 3 + 8 * n, n)
 }
 
 // Field 08, which starts at `at`, and the bytes after it.
-fn check_timer_sets(s: &[u8], c: Counts, at: usize, n: usize) -> Answer
+#[tactic(auto, using(crate::proofs::Answers::passed_up, crate::proofs::Answers::past, crate::proofs::Answers::let_pass), unfolding(crate::specs::Check::timer_sets_answer, crate::specs::Inner::bad_word))]
+fn check_timer_sets(s: &[u8], c: Counts, at: usize, n: usize) -> Result<(), Refusal>
     requires { (at ≤ length s.now) × (c.states ≤ 32) × (c.inputs ≤ 32) × (n ≤ 4) }
     ensures { result ≡ timer_sets_answer c at n s.now }
 {
-    let rows = (c.states as usize) * n;
-    let sets = check_words(s, at, 0x08, rows, set_limit(c.inputs as u32));
-    let Answer::Passes = sets else {
-        return sets;
-    };
+    let rows = usize::from(c.states) * n;
+    check_words(s, at, 0x08, rows, set_limit(u32::from(c.inputs)))?;
     let end = at + 3 + 4 * rows;
-    or_else(s.len() <= end, Answer::BytesAfter(end))
+    or_else(s.len() <= end, Refusal::BytesAfter(end))
 }
 
 // Whether field 07 stands at `at`, whole. Most tables have holds, and there the tag tells.
@@ -277,15 +260,14 @@ fn timed(s: &[u8], at: usize) -> bool
     if s[at] != 0x07 {
         return false;
     }
-    let field = wire::read_field(s, at);
-    let Field::Whole { tag, .. } = field else {
+    let Some(Field { tag, .. }) = wire::read_field(s, at) else {
         return false;
     };
     tag == 0x07
 }
 
 // Holds, or timers where the fifth field says so.
-fn check_timing(s: &[u8], c: Counts, p: Places, old: bool) -> Answer
+fn check_timing(s: &[u8], c: Counts, p: Places, old: bool) -> Result<(), Refusal>
     requires { PlacesOf c p × (p.hold ≤ length s.now) × (c.states ≤ 32) × (c.inputs ≤ 32) }
     ensures { result ≡ timing_answer old c s.now }
 {
@@ -297,41 +279,31 @@ fn check_timing(s: &[u8], c: Counts, p: Places, old: bool) -> Answer
 }
 
 // Fields 03 and on, and the bytes after them, under the counts of field 01.
-fn check_entries(s: &[u8], c: Counts, old: bool) -> Answer
+#[tactic(auto, using(crate::proofs::Answers::passed_up, crate::proofs::Answers::past, crate::proofs::Answers::let_pass, crate::proofs::Rows::row_fits), unfolding(crate::specs::Check::entries_answer))]
+fn check_entries(s: &[u8], c: Counts, old: bool) -> Result<(), Refusal>
     requires { (14 ≤ length s.now) × (c.states ≤ 32) × (c.inputs ≤ 32) }
     ensures { result ≡ entries_answer old c s.now }
 {
     let p = places_of(c);
-    let outputs = check_bytes(s, 14, 0x03, c.states as usize, c.outputs);
-    let Answer::Passes = outputs else {
-        return outputs;
-    };
-    let next = check_bytes(s, p.next, 0x04, p.pairs, c.states);
-    let Answer::Passes = next else {
-        return next;
-    };
+    check_bytes(s, 14, 0x03, usize::from(c.states), c.outputs)?;
+    check_bytes(s, p.next, 0x04, p.pairs, c.states)?;
     check_timing(s, c, p, old)
 }
 
 // It only looks, and makes no table.
-pub fn check(s: &[u8]) -> Answer
+pub fn check(s: &[u8]) -> Result<(), Refusal>
     ensures { result ≡ table_answer s.now }
 {
     check_by(s, false)
 }
 
-// The check, by the old rules or by today's.
-pub fn check_by(s: &[u8], old: bool) -> Answer
+// The check, by the old rules or by today's. A flag says which: `answer_by` and `WellFormedBy` are stated over it (docs/DECISIONS.md).
+#[tactic(auto, using(crate::proofs::Answers::passed_up, crate::proofs::Answers::past, crate::proofs::Answers::let_pass, crate::proofs::Stands::counts_there, crate::proofs::Stands::counts_few, crate::proofs::Stands::bound_there), unfolding(crate::specs::Check::answer_by))]
+pub fn check_by(s: &[u8], old: bool) -> Result<(), Refusal>
     ensures { result ≡ answer_by old s.now }
 {
-    let counts = check_counts(s);
-    let Answer::Passes = counts else {
-        return counts;
-    };
-    let bound = check_bound(s);
-    let Answer::Passes = bound else {
-        return bound;
-    };
+    check_counts(s)?;
+    check_bound(s)?;
     check_entries(s, counts_in(s), old)
 }
 
@@ -355,7 +327,7 @@ fn holders_of(timers: usize, states: usize) -> usize
 
 // How many inputs the table has, for who asks nothing else of it.
 pub fn inputs_in(s: &[u8]) -> u32
-    requires { table_answer s.now ≡ Answer.Passes }
+    requires { table_answer s.now ≡ Ok tt }
     ensures { result ≡ (table_in s.now).inputs }
 {
     wide(counts_in(s).inputs)
@@ -363,7 +335,7 @@ pub fn inputs_in(s: &[u8]) -> u32
 
 // The table in bytes that passed.
 pub fn read(s: &[u8]) -> Table
-    requires { table_answer s.now ≡ Answer.Passes }
+    requires { table_answer s.now ≡ Ok tt }
     ensures { result ≡ table_in s.now }
 {
     let mut t = blank();
@@ -396,8 +368,9 @@ pub fn blank() -> Table
 }
 
 // The table in bytes that passed, its arrays filled in place: a table that is handed back would be on the stack three times.
+// `as` widens here: no plainer by `from`, each of which is a call whose answer every law of `*t` would have to rewrite first.
 pub fn read_into(s: &[u8], t: &mut Table)
-    requires { table_answer s.now ≡ Answer.Passes }
+    requires { table_answer s.now ≡ Ok tt }
     ensures { t.new ≡ table_in s.now }
 {
     let c = counts_in(s);
@@ -419,12 +392,12 @@ pub fn read_into(s: &[u8], t: &mut Table)
         timing: [0u32; 8],
         sets: [0u32; 128],
     };
-    fill_output(s, 14, states, &mut t.output);
-    fill_next(s, p.next, p.pairs, &mut t.next);
-    fill_state(s, p.hold, holders, &mut t.hold);
-    fill_state(s, p.delayed, holders, &mut t.delayed);
-    fill_timing(s, p.hold, 2 * timers, &mut t.timing);
-    fill_sets(s, p.hold + 3 + 8 * timers, states * timers, &mut t.sets);
+    fill_bytes(s, 14, states, &mut t.output);
+    fill_bytes(s, p.next, p.pairs, &mut t.next);
+    fill_words(s, p.hold, holders, &mut t.hold);
+    fill_words(s, p.delayed, holders, &mut t.delayed);
+    fill_words(s, p.hold, 2 * timers, &mut t.timing);
+    fill_words(s, p.hold + 3 + 8 * timers, states * timers, &mut t.sets);
 }
 
 // Where next(state, input) stands in the rows of a table with this many inputs.

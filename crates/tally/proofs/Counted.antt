@@ -13,10 +13,10 @@ use Rattle.machine.specs.Run.{Runs}
 use Rattle.machine.proofs.Steps.{start_fits}
 use Rattle.tally.specs.declared.Tally.{Tally}
 use Rattle.tally.specs.Tally.{dwell_in, slots_with, entries_into, tally_of}
-use Rattle.tally.specs.Counting.{begun, counted}
+use Rattle.tally.specs.Counting.{begun, counted, Sized}
 use Rattle.tally.specs.Totals.{InTable}
 use Rattle.tally.proofs.Stretches.{all_spent}
-use Rattle.tally.proofs.Places.{Within, within, Sized, length-more, counted_sized, more_at, dwell_at, pairs_at, entries_at}
+use Rattle.tally.proofs.Places.{Within, within, length-more, counted_sized, more_at, dwell_at, pairs_at, entries_at}
 
 length-zeros : (n : ℕ) → length (zeros n) ≡ n
 length-zeros n = length-replicate {A = ℕ} n 0

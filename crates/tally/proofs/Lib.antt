@@ -4,6 +4,8 @@ pub mod Stretches
 pub mod Places
 pub mod Counted
 pub mod Over
+pub mod TableCounts
 pub mod Along
+pub mod Held
 pub mod Moves
 pub mod Totals

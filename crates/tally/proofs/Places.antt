@@ -18,7 +18,7 @@ use Rattle.machine.proofs.Steps.{fits_after}
 use Rattle.runs.proofs.Records.{not_both}
 use Rattle.tally.specs.declared.Tally.{Tally}
 use Rattle.tally.specs.Tally.{moves_into}
-use Rattle.tally.specs.Counting.{input_from, more, with_record, counted_from}
+use Rattle.tally.specs.Counting.{input_from, more, with_record, counted_from, Sized}
 use Rattle.tally.specs.Totals.{InTable}
 use Rattle.tally.proofs.Stretches.{input_from_lem, spent}
 
@@ -36,11 +36,6 @@ within t good (r ∷ rs) m last fits (here, others) (takes, run) =
     let state = state_from_lem t m r (after t m r) takes in
     let rest = within t good rs (after t m r) last after_fits others run in
     (fits.state, fits.input, rw state at after_fits.state, rw (state, input_from_lem t m r) at rest)
-
-pub record Sized (y : Tally) : Type 0 where
-  pub dwell : length y.dwell ≡ 32
-  pub pairs : length y.pairs ≡ 1024
-  pub entries : length y.entries ≡ 32
 
 pub length-more : (array : List ℕ) (place n : ℕ) → length (more array place n) ≡ length array
 length-more array place n = length-set array place (get_or array place 0 + n)

@@ -1,3 +1,4 @@
+pub mod Told
 pub mod Time
 pub mod Entry
 pub mod Below

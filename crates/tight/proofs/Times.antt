@@ -17,7 +17,6 @@ use Rattle.reaction.proofs.Findings.{same_weight}
 use Rattle.moves.specs.Moves.{next_times, largest_sum, reaction_over}
 use Rattle.moves.specs.Walks.{HasImages, HasWeights, heaviest}
 use Rattle.moves.proofs.Whole as moves
-use Rattle.tight.specs.declared.over_moves.Over.TheVariants.{Reacts}
 use Rattle.tight.specs.Several.{tight_weight, tight_time_over, times_over}
 use Rattle.tight.specs.Walks.{AtMost, SomeWeights, tight_from, TightWeights, sum_along}
 use Rattle.tight.proofs.Time.{heavy, light, at_least}
@@ -69,6 +68,6 @@ module _ {t : Table} {P A : ℕ} (all : AllExist t P A) {images : List ℕ} (of 
 
 -- The answer.
 pub times_are : (t : Table) (P A n : ℕ) (N E sum tight : ℕ) → N ≡ next_times t P A n → E ≡ t.bound → sum ≡ largest_sum t P A N (weight t A) n →
-    tight ≡ largest_sum t P A N (tight_weight t A) n → Reacts (E + sum) N (if tight =? 0 then E else E + tight - 1) ≡ times_over t P A n
+    tight ≡ largest_sum t P A N (tight_weight t A) n → record { time = E + sum; target = N; tight = if tight =? 0 then E else E + tight - 1 } ≡ times_over t P A n
 unfolding times_over reaction_over tight_time_over
 times_are t P A n N E sum tight target bound is tight_is = rw (is, tight_is, bound, target) refl

@@ -3,9 +3,9 @@ use Rattle.std.specs.Prelude.{◌≡◌, List, true, false, ℕ, ◌+◌, ◌-�
 use Rattle.wire.specs.Choice.{◌=?◌}
 use Rattle.table.specs.declared.Table.{Table}
 use Rattle.table.specs.Check.{table_in}
-use Rattle.reaction.specs.declared.Answer.TheVariants as reaction
+use Rattle.reaction.specs.Answer as reaction
 use Rattle.reaction.specs.Reaction.{off_target, from_hold, react_of}
-use Rattle.tight.specs.declared.Answer.TheVariants.{Reacts}
+use Rattle.tight.specs.Answer.{ReactsTight}
 use Rattle.tight.specs.Tight.{react_tight_of}
 
 -- By the time alone: it is E where no state of P lies outside the target, 2E where the largest weight is E, and above that where it comes
@@ -28,4 +28,4 @@ pub record Tighter (s : List ℕ) (P A time target tight : ℕ) : Type 0 where
   pub below : Below (table_in s) P A target time tight
 
 abbrev pub NeverAbove : Type 0
-NeverAbove = (s : List ℕ) (P A time target tight : ℕ) → react_tight_of s P A ≡ Reacts time target tight → Tighter s P A time target tight
+NeverAbove = (s : List ℕ) (P A time target tight : ℕ) → react_tight_of s P A ≡ ReactsTight time target tight → Tighter s P A time target tight

@@ -6,10 +6,10 @@ use Rattle.table.specs.declared.Table.{Table}
 use Rattle.table.specs.Table.{hold_of}
 use Rattle.table.specs.Check.{table_in}
 use Rattle.reaction.specs.Reaction.{from_hold}
-use Rattle.moves.specs.Answer.{judged_passes?}
+use Rattle.moves.specs.Answer.{judged_then}
 use Rattle.moves.specs.Moves.{next_times, largest_sum, judge_of, reaction_over}
-use Rattle.tight.specs.declared.over_moves.Over.{Over}
-use Rattle.tight.specs.declared.over_moves.Over.TheVariants.{Reacts, Refused}
+use Rattle.tight.specs.declared.Tight.{Tight}
+use Rattle.tight.specs.Answer.{Over}
 
 -- The tight weight of a state: hold + 2E - 1 where its weight comes from a hold, and E elsewhere.
 unfoldable pub tight_weight : Table → (A q : ℕ) → ℕ
@@ -24,8 +24,12 @@ tight_time_over t P A n =
 -- ---- The entry
 
 -- The time and the target over several moves, and this beside them.
-unfoldable pub times_over : Table → (P A n : ℕ) → Over
-times_over t P A n = Reacts (reaction_over t P A n).time (reaction_over t P A n).target (tight_time_over t P A n)
+unfoldable pub times_over : Table → (P A n : ℕ) → Tight
+times_over t P A n = record {
+  time = (reaction_over t P A n).time;
+  target = (reaction_over t P A n).target;
+  tight = tight_time_over t P A n;
+}
 
 -- Room for the sums and the path of 32 moves.
 abbrev pub room_for_sums : ℕ
@@ -36,6 +40,4 @@ room_for_path = 63
 
 -- On the bytes of a table: what the calculator over several moves turns down with such room, so that it lacks none, is turned down.
 unfoldable pub tight_moves_of : List ℕ → (P A n : ℕ) → Over
-tight_moves_of s P A n =
-    let judged = judge_of s P A n room_for_sums room_for_path in
-    if judged_passes? judged then times_over (table_in s) P A n else Refused judged
+tight_moves_of s P A n = judged_then (judge_of s P A n room_for_sums room_for_path) (times_over (table_in s) P A n)

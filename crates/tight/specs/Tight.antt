@@ -1,14 +1,12 @@
 -- Tight reaction times: docs/RULES.md, "Reaction times". P is a set of states and A a set of inputs, each a number.
-use Rattle.std.specs.Prelude.{List, ℕ, ◌+◌, ◌-◌, ◌*◌, if◌then◌else◌}
+use Rattle.std.specs.Prelude.{List, ℕ, ◌+◌, ◌-◌, ◌*◌, Ok, Err, if◌then◌else◌}
 use Rattle.sets.specs.Sets.{some, largest}
 use Rattle.table.specs.declared.Table.{Table}
 use Rattle.table.specs.Table.{hold_of}
 use Rattle.table.specs.Check.{table_in}
-use Rattle.reaction.specs.declared.Answer as reaction'
-use Rattle.reaction.specs.declared.Answer.TheVariants as reaction
+use Rattle.reaction.specs.Answer as reaction
 use Rattle.reaction.specs.Reaction.{next_set, off_target, from_hold, react_of}
-use Rattle.tight.specs.declared.Answer.{Answer}
-use Rattle.tight.specs.declared.Answer.TheVariants.{Reacts, Refused}
+use Rattle.tight.specs.Answer.{TightAnswer, ReactsTight}
 
 -- What p needs: hold + 3E - 2 where its weight comes from a hold, and 2E - 1 elsewhere.
 unfoldable pub need_of : Table → (A p : ℕ) → ℕ
@@ -21,14 +19,10 @@ tight_time t P A =
     if some t.states (off_target P target) then largest t.states (off_target P target) (need_of t A) else t.bound
 
 -- The calculator's time and target, and this beside them; what it refuses is refused.
-abbrev pub beside : (tight : ℕ) → reaction'.Answer → Answer
-beside tight (reaction.Reacts time target) = Reacts time target tight
-beside tight (reaction.TableRefused refusal) = Refused (reaction.TableRefused refusal)
-beside tight reaction.HasTimers = Refused reaction.HasTimers
-beside tight reaction.UnknownState = Refused reaction.UnknownState
-beside tight reaction.UnknownInput = Refused reaction.UnknownInput
-beside tight (reaction.LeavesStates at) = Refused (reaction.LeavesStates at)
+abbrev pub beside : (tight : ℕ) → reaction.ReactionAnswer → TightAnswer
+beside tight (Ok r) = ReactsTight r.time r.target tight
+beside tight (Err refusal) = Err refusal
 
 -- On the bytes of a table.
-unfoldable pub react_tight_of : List ℕ → (P A : ℕ) → Answer
+unfoldable pub react_tight_of : List ℕ → (P A : ℕ) → TightAnswer
 react_tight_of s P A = beside (tight_time (table_in s) P A) (react_of s P A)

@@ -6,18 +6,21 @@ ghost use Rattle.table.specs.Table.{largest_bound};
 ghost use Rattle.tight.specs.Tight.{react_tight_of};
 ghost use Rattle.tight.specs.Below.{tightened};
 
+use reaction::{Reaction, Refusal};
 use wire::number32;
 
 pub mod over_moves;
 
-// The time, the target and the tight time, or what the calculator turns down.
-#[derive(Clone, Copy)]
-pub enum Answer {
-    Reacts { time: u32, target: u32, tight: u32 },
-    Refused(reaction::Answer),
+// The time, the target and the tight time.
+#[derive(Clone, Copy, Debug, PartialEq, Eq)]
+pub struct Tight {
+    pub time: u32,
+    pub target: u32,
+    pub tight: u32,
 }
 
 // The tight time by the calculator's time, which tells what the largest weight is.
+#[tactic(auto, using(crate::proofs::Time::none_less, crate::proofs::Time::one_less, crate::proofs::Time::two_less))]
 fn tighten(time: u32, bound: u32) -> u32
     requires { (1 ≤ bound) × (bound ≤ largest_bound) × (bound ≤ time) }
     ensures { result ≡ tightened time bound }
@@ -35,17 +38,14 @@ fn tighten(time: u32, bound: u32) -> u32
 }
 
 // The entry, on any bytes. Its refusals are the calculator's. Where there is none the table passed, and has its bound at 10.
-pub fn react(table: &[u8], states: u32, inputs: u32) -> Answer
+pub fn react(table: &[u8], states: u32, inputs: u32) -> Result<Tight, Refusal>
     ensures { result ≡ react_tight_of table.now states inputs }
 {
-    let reacted = reaction::react(table, states, inputs);
-    let reaction::Answer::Reacts { time, target } = reacted else {
-        return Answer::Refused(reacted);
-    };
+    let Reaction { time, target } = reaction::react(table, states, inputs)?;
     let tight = tighten(time, number32(table, 10));
-    Answer::Reacts {
+    Ok(Tight {
         time,
         target,
         tight,
-    }
+    })
 }

@@ -2,17 +2,18 @@
 use mathlib.Core.Path.{◌≡◌, refl, sym, ap, ◌∙◌}
 use mathlib.Core.Bool.{Bool, true, false}
 use Prim.Native.Nat.{ℕ}
-use Rattle.std.specs.Prelude.{if◌then◌else◌}
+use Rattle.std.specs.Prelude.{if◌then◌else◌, Result}
 use Rattle.table.specs.declared.Table.{Table}
 use Rattle.records.specs.declared.Record.{Record}
 use Rattle.records.specs.declared.Record.TheVariants.{Change, Poll, Test, Tick, End}
+use Rattle.records.specs.declared.Refusal.{Refusal}
 use Rattle.records.specs.Form.{Form}
 use Rattle.machine.specs.declared.Machine.{Machine}
-use Rattle.machine.specs.declared.Step.{Step}
+use Rattle.machine.specs.Step.{Step}
 use Rattle.machine.specs.Machine.{verdict, state_after, step}
 use Rattle.machine.specs.Walk.{filled}
-use Rattle.journal.specs.declared.Progress.{Progress}
-use Rattle.journal.specs.Progress.{progress_with}
+use Rattle.turns.specs.declared.Progress.{Progress}
+use Rattle.turns.specs.Progress.{progress_with}
 use Rattle.turns.specs.declared.Turned.{Turned}
 use Rattle.turns.specs.Turns.{left_at, went_to, turn_to, turn_of}
 
@@ -58,6 +59,6 @@ module _ (t : Table) (m : Machine) (time : ℕ) where
 
 module _ (F : Form) (t : Table) (p : Progress) (r : Record) (kind : Record) (whole : completed_by F.valued t p.machine r ≡ kind) where
   pub turns : (counted : Progress) → counted ≡ progress_with t p kind → (left : ℕ) → left ≡ left_at t p.machine kind → (a : Step) →
-      a ≡ step t p.machine kind → {x : Turned} → x ≡ went_to counted kind left a → x ≡ turn_of F t p r
+      a ≡ step t p.machine kind → {x : Result Turned Refusal} → x ≡ went_to counted kind left a → x ≡ turn_of F t p r
   unfolding turn_of completed_by
   turns counted counts left is a steps e = e ∙ rw (counts, is, steps) (ap (turn_to t p) (sym whole))

@@ -1,2 +1,4 @@
+pub mod Counted
 pub mod InTable
 pub mod Completing
+pub mod Turning

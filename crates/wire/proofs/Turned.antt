@@ -39,5 +39,8 @@ turned_zero x e = all (omega arith) (omega arith) (omega arith) (omega arith)
         let three : x / 256 ≡ 0 = byte (x / 256) (omega (arith, two)) c in
         byte x (omega (arith, three)) d
 
-pub swapped_bytes : (x n : ℕ) → x < 2 ^ 32 → n ≡ turned32 x → n % 256 ∷ n / 256 % 256 ∷ n / 65536 % 256 ∷ n / 16777216 ∷ [] ≡ bytes32 x
-swapped_bytes x n small is = let d = turned_digits x small in rw (is, d.first, d.second, d.third, d.fourth) refl
+pub swapped_bytes : (x n : ℕ) → x < 2 ^ 32 → n ≡ turned32 x → n % 256 ∷ n / 256 % 256 ∷ n / 65536 % 256 ∷ n / 16777216 % 256 ∷ [] ≡ bytes32 x
+swapped_bytes x n small is =
+    let d = turned_digits x small in
+    let top : turned32 x / 16777216 % 256 ≡ x % 256 = omega (arith, d.first) in
+    rw (is, top, d.second, d.third, d.fourth) refl

@@ -1,10 +1,7 @@
--- The loop keeps `Noting`.
-use Rattle.moves.proofs.Noting.{none_noted, one_noted}
+-- A call gives what the row has for the state.
+use Rattle.moves.proofs.Noting.{follows}
+use borrow.Author.Rules.{rules}
 use Rattle.moves.proofs.path_weights.Goals as goal
 
-pub loop-rest-init : goal.loop-rest-init
-loop-rest-init c = none_noted
-
-pub loop-rest-preserved : goal.loop-rest-preserved
-loop-rest-preserved c =
-    one_noted c.loop-rest.invariant c.take_smallest-taken.ensures _ c.state_weight.ensures
+pub returns : goal.returns
+returns c = follows c.by_state.ensures (λ i n in_set post. search rules)

@@ -2,6 +2,6 @@
 use Rattle.moves.proofs.Targets.{one_united}
 use Rattle.moves.proofs.united.Goals as goal
 
-pub loop-rest-preserved : goal.loop-rest-preserved
-loop-rest-preserved c =
-    one_united c.loop-rest.invariant c.take_smallest-taken.ensures c.union-all.ensures
+pub loop-state-preserved : goal.loop-state-preserved
+loop-state-preserved c =
+    one_united c.loop-state.invariant c.in-Some.ensures.steps c.union-all.ensures

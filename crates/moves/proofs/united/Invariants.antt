@@ -2,8 +2,5 @@
 use Rattle.moves.proofs.Targets.{Uniting}
 use Rattle.moves.proofs.united.Given as goal
 
-abbrev pub invariant-loop-rest : goal.invariant-loop-rest
-invariant-loop-rest l = Uniting l.sets l.states l.rest l.all
-
-abbrev pub decreases-loop-rest : goal.decreases-loop-rest
-decreases-loop-rest l = l.rest
+abbrev pub invariant-loop-state : goal.invariant-loop-state
+invariant-loop-state l = Uniting l.sets l.states l.state-iterator.rest l.all

@@ -1,12 +1,8 @@
 -- Byte after byte.
-use Prim.Native.Nat.{◌-◌}
 use Rattle.sheet.proofs.Joining.{Joining}
 use lib.ListN.{get_or}
 use Rattle.sheet.specs.Sheet.{quoted_byte}
 use Rattle.sheet.proofs.put_name.Given as goal
 
-abbrev pub invariant-loop-k : goal.invariant-loop-k
-invariant-loop-k l = Joining (λ k. quoted_byte (get_or l.name k 0)) 2 l.n l.initial.out l.at l.out l.end l.k
-
-abbrev pub decreases-loop-k : goal.decreases-loop-k
-decreases-loop-k l = l.n - l.k
+abbrev pub invariant-loop-byte : goal.invariant-loop-byte
+invariant-loop-byte l = Joining (λ k. quoted_byte (get_or l.name k 0)) 2 l.n l.initial.out l.at l.out l.end l.byte-index

@@ -1,4 +1,5 @@
 -- There are at most 32 × 32 pairs, and so their lines leave room for those of the states.
+use borrow.Author.Rules.{rules}
 use native.Mathlib.Omega.{arith}
 use Prim.Native.Nat.{◌≤◌}
 use native.Mathlib.Nat.{mul-le-mul}
@@ -7,11 +8,11 @@ use Rattle.sheet.proofs.write.Goals as goal
 
 pub put_states-requires : goal.put_states-requires
 put_states-requires c =
-    let states : c.least-states.result ≤ 32 = omega (arith, c.least-states.ensures) in
-    let inputs : c.least-inputs.result ≤ 32 = omega (arith, c.least-inputs.ensures) in
+    let states : c.from-states.result ≤ 32 = search rules in
+    let inputs : c.from-inputs.result ≤ 32 = search rules in
     (omega (arith, c.put_pairs-at.ensures.short, c.put_journals-at.ensures.short, mul-le-mul states inputs), states)
 
 pub returns : goal.returns
 returns c =
-    let all_of = puts_sheet _ c.least-inputs.ensures c.least-states.ensures c.put_journals-at.ensures.puts c.put_pairs-at.ensures.puts
+    let all_of = puts_sheet _ (search rules) (search rules) c.put_journals-at.ensures.puts c.put_pairs-at.ensures.puts
     c.put_states.ensures in record { puts = all_of.0; counts = all_of.1 }

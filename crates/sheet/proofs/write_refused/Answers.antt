@@ -7,5 +7,5 @@ use Rattle.sheet.proofs.write_refused.Goals as goal
 pub returns : goal.returns
 unfolding refused_line
 returns c =
-    let whole = row_after _ c.put_refused-at.ensures.puts c.put_numbers.ensures.puts in
+    let whole = row_after _ c.put_refused-at.ensures.puts (rw c.from.ensures at c.put_numbers.ensures.puts) in
     record { puts = whole; counts = puts_counts whole }

@@ -1,9 +1,7 @@
--- The bytes that are copied stand before their copies.
-use Prim.Native.Nat.{◌≤◌, ◌-◌}
+-- The byte to repeat stands `count` places before the next place.
+use Rattle.std.proofs.Common.{◌≤◌}
+use Rattle.arrayvec.specs.ArrayVec.{array_vec_len}
 use Rattle.spelling.proofs.repeat.Given as goal
 
-abbrev pub invariant-loop-end : goal.invariant-loop-end
-invariant-loop-end l = l.to ≤ l.end
-
-abbrev pub decreases-loop-end : goal.decreases-loop-end
-decreases-loop-end l = 65537 - l.end
+abbrev pub invariant-loop : goal.invariant-loop
+invariant-loop l = (l.to ≤ l.at) × (l.at ≤ array_vec_len l.bytes)

@@ -34,31 +34,31 @@ number32-requires c = omega (arith, (known (goal.at.number32-requires c).After-h
 pub overflow_cast-t-5 : goal.overflow_cast-t-5
 overflow_cast-t-5 c = omega (arith, (known (goal.at.overflow_cast-t-5 c).After-holders_of-holders).few)
 
-pub fill_output-requires : goal.fill_output-requires
-fill_output-requires c = let k = known (goal.at.fill_output-requires c).After-holders_of-holders in (omega (arith, k.fifth), k.counts.states.1)
+pub fill_bytes-requires : goal.fill_bytes-requires
+fill_bytes-requires c = let k = known (goal.at.fill_bytes-requires c).After-holders_of-holders in (omega (arith, k.fifth), k.counts.states.1)
 
-pub fill_next-requires : goal.fill_next-requires
-fill_next-requires c =
-    let k = known (goal.at.fill_next-requires c).After-holders_of-holders in
+pub fill_bytes-requires-2 : goal.fill_bytes-requires-2
+fill_bytes-requires-2 c =
+    let k = known (goal.at.fill_bytes-requires-2 c).After-holders_of-holders in
     let places = c.places_of-p.ensures in
     (omega (arith, k.fifth, places.next, places.pairs), places.few)
 
-pub fill_state-requires : goal.fill_state-requires
-fill_state-requires c =
-    let k = known (goal.at.fill_state-requires c).After-holders_of-holders in
+pub fill_words-requires : goal.fill_words-requires
+fill_words-requires c =
+    let k = known (goal.at.fill_words-requires c).After-holders_of-holders in
     (rw c.places_of-p.ensures.hold k.hold, k.holding)
 
-pub fill_state-requires-2 : goal.fill_state-requires-2
-fill_state-requires-2 c =
-    let k = known (goal.at.fill_state-requires-2 c).After-holders_of-holders in
+pub fill_words-requires-2 : goal.fill_words-requires-2
+fill_words-requires-2 c =
+    let k = known (goal.at.fill_words-requires-2 c).After-holders_of-holders in
     (rw c.places_of-p.ensures.delayed k.delayed, k.holding)
 
 pub overflow_mul-timers : goal.overflow_mul-timers
 overflow_mul-timers c = omega (arith, (known (goal.at.overflow_mul-timers c).After-holders_of-holders).few)
 
-pub fill_timing-requires : goal.fill_timing-requires
-fill_timing-requires c =
-    let k = known (goal.at.fill_timing-requires c).After-holders_of-holders in
+pub fill_words-requires-3 : goal.fill_words-requires-3
+fill_words-requires-3 c =
+    let k = known (goal.at.fill_words-requires-3 c).After-holders_of-holders in
     (rw c.places_of-p.ensures.hold k.timing, omega (arith, k.few))
 
 pub overflow_mul-timers-2 : goal.overflow_mul-timers-2
@@ -73,9 +73,9 @@ overflow_add-p-2 c =
 pub overflow_mul-states : goal.overflow_mul-states
 overflow_mul-states c = omega (arith, (known (goal.at.overflow_mul-states c).After-holders_of-holders).rows)
 
-pub fill_sets-requires : goal.fill_sets-requires
-fill_sets-requires c =
-    let k = known (goal.at.fill_sets-requires c).After-holders_of-holders in
+pub fill_words-requires-4 : goal.fill_words-requires-4
+fill_words-requires-4 c =
+    let k = known (goal.at.fill_words-requires-4 c).After-holders_of-holders in
     (rw c.places_of-p.ensures.hold k.sets, k.rows)
 
 pub returns : goal.returns
@@ -83,5 +83,5 @@ returns c =
     let places = c.places_of-p.ensures in
     table_made _ c.args.s.now _ _ c.counts_in-c.ensures places _ _ refl refl refl refl
     c.number32.ensures (c.timers_in-timers.ensures _ places.hold) c.holders_of-holders.ensures (omega (arith, places.hold))
-    c.fill_output.ensures c.fill_next.ensures c.fill_state.ensures c.fill_state-2.ensures
-    c.fill_timing.ensures c.fill_sets.ensures
+    c.fill_bytes.ensures c.fill_bytes-2.ensures c.fill_words.ensures c.fill_words-2.ensures
+    c.fill_words-3.ensures c.fill_words-4.ensures

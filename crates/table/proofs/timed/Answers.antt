@@ -12,8 +12,8 @@ pub returns-then-s-at-ne7 : goal.returns-then-s-at-ne7
 returns-then-s-at-ne7 c = no_tag _ _ (inr c.if-s-at-ne7.true)
 
 pub returns-in_default : goal.returns-in_default
-returns-in_default c = untagged _ _ _ c.read_field-field.ensures c.in_default.in_default-own.keys2
+returns-in_default c = untagged _ _ _ c.read_field.ensures c.in_default.is
 
 pub returns : goal.returns
 unfolding tagged
-returns c = sym (ap tagged (sym c.read_field-field.ensures ∙ c.in-Whole.is))
+returns c = sym (ap tagged (sym c.read_field.ensures ∙ c.in-Some.is))

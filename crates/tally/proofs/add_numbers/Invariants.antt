@@ -1,10 +1,7 @@
--- The loop keeps `Adding`.
-use Rattle.std.proofs.Common.{◌-◌, length}
-use Rattle.tally.proofs.Sums.{Adding}
+-- The numbers so far are added.
+use Rattle.std.proofs.Common.{◌≡◌, length, take}
+use Rattle.tally.specs.Sums.{summed}
 use Rattle.tally.proofs.add_numbers.Given as goal
 
 abbrev pub invariant-loop-k : goal.invariant-loop-k
-invariant-loop-k l = Adding l.numbers l.initial.sums l.sums l.k
-
-abbrev pub decreases-loop-k : goal.decreases-loop-k
-decreases-loop-k l = length l.numbers - l.k
+invariant-loop-k l = record { same_length : length l.sums ≡ length l.initial.sums; so_far : l.sums ≡ summed l.initial.sums (take l.k l.numbers) }

@@ -1,16 +1,10 @@
--- A timer that is not there leaves nothing.
-use native.Mathlib.Omega.{arith}
-use Rattle.turns.proofs.InTable.{good, no_left, timer_runs, timer_short}
+-- Outside the region nothing is left; in it, the timer is one that the table has.
+use Rattle.std.proofs.Common.{rules, ◌≡◌, false}
+use Rattle.table.specs.Table.{member}
+use Rattle.machine.proofs.Laws.{outside_region}
 use Rattle.turns.proofs.left_at.Goals as goal
 
-pub returns-then-timers-timer : goal.returns-then-timers-timer
-returns-then-timers-timer c =
-    let pre = c.requires in
-    no_left _ pre.0 _ (rw pre.1 at c.if-timers-timer.true) _ _ _ _
-
-pub left_of_timer-requires : goal.left_of_timer-requires
-left_of_timer-requires c =
-    let region = c.region_of.ensures in
-    let length = c.length_of.ensures in
-    let pre = c.requires in
-    (omega (arith, pre.2, (good _ pre.0).states.1), pre.3, rw (region, length) (timer_runs _ pre.0 _ _), rw length (timer_short _ pre.0 _))
+pub returns-then-not-has : goal.returns-then-not-has
+returns-then-not-has g c =
+    let none : member c.region-region.result c.args.m.state ≡ false = search rules in
+    outside_region _ _ _ _ _ _ _ (rw c.region-region.ensures at none)

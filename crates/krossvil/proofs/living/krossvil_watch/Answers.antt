@@ -1,7 +1,7 @@
 -- Without room for the numbers the check only looks.
 use mathlib.Core.Path.{refl}
 use Rattle.live.specs.Answer.{watch_reply}
-use Rattle.krossvil.proofs.Outcomes.{owed_same}
+use Rattle.krossvil.proofs.Outcomes.{owed}
 use Rattle.krossvil.proofs.Lives.{watch_says, watch_looks, watch_keeps_lem}
 use Rattle.krossvil.proofs.living.krossvil_watch.Goals as goal
 
@@ -13,7 +13,7 @@ tell_watched-requires c =
 pub returns-then-answer-lt-ACCEPTED_ANSWER : goal.returns-then-answer-lt-ACCEPTED_ANSWER
 returns-then-answer-lt-ACCEPTED_ANSWER c =
     let args = c.args in
-    let owed = owed_same watch_reply _ _ _ c.look_at_record.ensures refl args.answer.now _ _ (c.tell_watched.ensures.code, c.tell_watched.ensures.bytes) in
+    let owed = owed watch_reply _ c.look_at_record.ensures refl _ _ _ (c.tell_watched.ensures.code, c.tell_watched.ensures.bytes) in
     record { code = owed.0; bytes = owed.1; kept = watch_looks args.table.now args.memory.now args.bytes.now args.answer.now c.if-answer-lt-ACCEPTED_ANSWER.true }
 
 pub tell_watched-requires-2 : goal.tell_watched-requires-2
@@ -24,5 +24,5 @@ tell_watched-requires-2 c =
 pub returns : goal.returns
 returns c =
     let args = c.args in
-    let owed = owed_same watch_reply _ _ _ c.watch_record.ensures.is refl args.answer.now _ _ (c.tell_watched-2.ensures.code, c.tell_watched-2.ensures.bytes) in
+    let owed = owed watch_reply _ c.watch_record.ensures.is refl _ _ _ (c.tell_watched-2.ensures.code, c.tell_watched-2.ensures.bytes) in
     record { code = owed.0; bytes = owed.1; kept = watch_keeps_lem args.table.now args.memory.now args.bytes.now args.answer.now c.if-answer-lt-ACCEPTED_ANSWER.false c.watch_record.ensures.keeps }

@@ -1,23 +1,15 @@
 -- A refusal touches no buffer; a success is told.
-use mathlib.Core.Path.{sym, ap}
-use Rattle.krossvil.proofs.Outcomes.{fits, refused, owed_same, number_as, place_as}
-use Rattle.krossvil.proofs.Tights.{tight_fits, tight_none}
+use Rattle.reaction.specs.Answer.{reaction_ruled}
 use Rattle.tight.specs.Answer.{reply_of}
+use Rattle.krossvil.proofs.Outcomes.{place_fits, owed, refused}
+use Rattle.krossvil.proofs.Tights.{tight_fits}
 use Rattle.krossvil.proofs.reacting.krossvil_reaction_tight.Goals as goal
 
 pub code-requires : goal.code-requires
-code-requires c =
-    let is = c.in-Refused.is in
-    fits reply_of _ _ c.react.ensures _ _ (number_as reply_of is c.number.ensures) (place_as reply_of is c.place.ensures) (tight_fits _ _ _)
+code-requires c = place_fits reply_of _ c.react.ensures c.in-Err.is (tight_fits _ _ _)
 
-pub returns-in-Reacts : goal.returns-in-Reacts
-returns-in-Reacts c =
-    let all_of = owed_same reply_of _ _ _ c.react.ensures (sym (ap reply_of c.in-Reacts.is)) c.args.answer.now _ _ (c.tell.ensures.code, c.tell.ensures.bytes) in
-    record { code = all_of.0; bytes = all_of.1 }
+pub returns-in-Err : goal.returns-in-Err
+returns-in-Err c = let all_of = refused reply_of _ c.react.ensures c.in-Err.is (reaction_ruled _) _ _ c.code.ensures in record { code = all_of.0; bytes = all_of.1 }
 
-pub returns-in-Refused : goal.returns-in-Refused
-returns-in-Refused c =
-    let is = c.in-Refused.is in
-    let all_of = refused reply_of _ _ c.react.ensures _ _ (number_as reply_of is c.number.ensures) (place_as reply_of is c.place.ensures)
-    (tight_none _ _ _ c.react.result c.react.ensures c.in-Refused.in-Refused-own.keys2) _ _ c.code.ensures in
-    record { code = all_of.0; bytes = all_of.1 }
+pub returns-in-Ok : goal.returns-in-Ok
+returns-in-Ok c = let all_of = owed reply_of _ c.react.ensures c.in-Ok.is _ _ _ (c.tell.ensures.code, c.tell.ensures.bytes) in record { code = all_of.0; bytes = all_of.1 }

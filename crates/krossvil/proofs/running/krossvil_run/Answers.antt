@@ -1,23 +1,13 @@
 -- Of the journal buffer only the room beside the answer is lent.
-use borrow.Enum.Refused.{opened}
-use Rattle.krossvil.proofs.Writers.{code_fits, value_small, refusal_owed, success_owed}
-use Rattle.krossvil.proofs.Runs.{run_writer, run_small}
+use Rattle.krossvil.proofs.Writers.{tellable, size_owed}
+use Rattle.krossvil.proofs.Runs.{run_sizes}
 use Rattle.krossvil.proofs.running.krossvil_run.Goals as goal
 
-pub code-requires : goal.code-requires
-code-requires c = code_fits (run_writer _ _) _ c.run-ran.ensures.is (opened c.in_default.in_default-own.keys2) c.number.ensures c.place.ensures
-
-pub returns-in_default : goal.returns-in_default
-returns-in_default c =
-    let args = c.args in
-    let all_of = refusal_owed (run_writer _ _) args.journal.now args.answer.now c.room_beside-room.ensures.is (c.run-ran.ensures.is, c.run-ran.ensures.holds)
-    (opened c.in_default.in_default-own.keys2) c.number.ensures c.place.ensures c.code.ensures in record { code = all_of.0; bytes = all_of.1.0; written = all_of.1.1 }
-
-pub overflow_cast-bytes : goal.overflow_cast-bytes
-overflow_cast-bytes c = record { fits = value_small (run_writer _ _) _ c.run-ran.ensures.is (run_small _ _) c.in-Written.is 0 }
+pub tell_size-requires : goal.tell_size-requires
+tell_size-requires c = tellable (run_sizes c.args.table.now c.args.stimulus.now) _ c.run.ensures.is
 
 pub returns : goal.returns
 returns c =
     let args = c.args in
-    let all_of = success_owed (run_writer _ _) args.journal.now args.answer.now c.room_beside-room.ensures.is (c.run-ran.ensures.is, c.run-ran.ensures.holds)
-    c.in-Written.is (c.tell.ensures.code, c.tell.ensures.bytes) in record { code = all_of.0; bytes = all_of.1.0; written = all_of.1.1 }
+    let all_of = size_owed (run_sizes args.table.now args.stimulus.now) args.journal.now args.answer.now c.room_beside-room.ensures.is (c.run.ensures.is, c.run.ensures.holds)
+    (c.tell_size.ensures.code, c.tell_size.ensures.bytes) in record { code = all_of.0; bytes = all_of.1.0; written = all_of.1.1 }

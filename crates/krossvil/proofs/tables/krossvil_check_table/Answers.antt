@@ -1,9 +1,8 @@
 -- The table check has no numbers to tell.
-use Rattle.krossvil.proofs.Outcomes.{fits}
-use Rattle.krossvil.proofs.TablePlaces.{table_fits}
-use Rattle.table.specs.Answer.{reply_of}
+use mathlib.Core.Path.{sym, ◌∙◌}
 use mathlib.Core.Bool.{false}
+use Rattle.krossvil.proofs.TablePlaces.{table_refuses}
 use Rattle.krossvil.proofs.tables.krossvil_check_table.Goals as goal
 
 pub code-requires : goal.code-requires
-code-requires c = fits reply_of _ _ c.check-checked.ensures _ _ c.number.ensures c.place.ensures (table_fits false _)
+code-requires c = (table_refuses false c.args.table.now _ (sym c.check.ensures ∙ c.in-Err.is)).place

@@ -1,10 +1,6 @@
 -- The loop keeps `Looking`.
-use Prim.Native.Nat.{◌-◌}
 use Rattle.live.proofs.Numbers.{Looking}
 use Rattle.live.proofs.memory.first_above.Given as goal
 
 abbrev pub invariant-loop-at : goal.invariant-loop-at
 invariant-loop-at l = Looking l.most l.memory l.at
-
-abbrev pub decreases-loop-at : goal.decreases-loop-at
-decreases-loop-at l = 17 - l.at

@@ -17,12 +17,12 @@ inside c =
 pub loop-k-init : goal.loop-k-init
 loop-k-init c = none_filled _ _ _
 
-pub sum_at-sum-requires : goal.sum_at-sum-requires
-sum_at-sum-requires c =
+pub sum_at-requires : goal.sum_at-requires
+sum_at-requires c =
     let inv = c.loop-k.invariant in
-    (c.requires.0, inside (goal.at.sum_at-sum-requires c).In-loop-k, fit c.requires.0 _ inv _ c.requires.1 refl c.requires.3)
+    (c.requires.0, inside (goal.at.sum_at-requires c).In-loop-k, fit c.requires.0 _ inv _ c.requires.1 refl c.requires.3)
 
 pub loop-k-preserved : goal.loop-k-preserved
 loop-k-preserved c =
     let inv = c.loop-k.invariant in
-    one_filled inv (search rules) c.requires.2 _ (c.sum_at-sum.ensures ∙ next_sum c.requires.0 _ inv)
+    one_filled inv (search rules) c.requires.2 _ (c.sum_at.ensures ∙ next_sum c.requires.0 _ inv)

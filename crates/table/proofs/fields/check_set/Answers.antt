@@ -3,8 +3,8 @@ use Rattle.table.proofs.Rows.{unknown_input, known_inputs}
 use borrow.Author.Rules.{rules}
 use Rattle.table.proofs.fields.check_set.Goals as goal
 
-pub returns-then-limit-set : goal.returns-then-limit-set
-returns-then-limit-set c = unknown_input _ _ _ _ _ (rw c.number32-set.ensures at c.if-limit-set.true)
+pub returns-then-limit-from : goal.returns-then-limit-from
+returns-then-limit-from c = unknown_input _ _ _ _ _ (rw (c.from.ensures, c.number32-set.ensures) at c.if-limit-from.true)
 
 pub returns : goal.returns
 returns c =

@@ -1,30 +1,28 @@
 -- The loop keeps `Checking`; each way out is one of its laws.
-use borrow.Enum.Refused.{opened}
-use mathlib.Core.Path.{◌∙◌}
+use mathlib.Core.Path.{refl}
 use Rattle.table.proofs.Answers.{let_pass}
-use Rattle.table.proofs.Rows.{field_stands, no_field, none_checked, all_good, all_checked, bad_entry, good_entry, is_called, is_below, bad_word_refuses}
+use Rattle.table.proofs.Rows.{field_stands, no_field, none_checked, all_good, all_checked, bad_entry, good_entry, is_called, is_below}
 use borrow.Author.Rules.{rules}
 use Rattle.table.proofs.fields.check_words.Goals as goal
 
 pub returns-in_default : goal.returns-in_default
-returns-in_default c = no_field _ _ _ _ _ _ _ c.expect_field-stands.ensures (opened c.in_default.in_default-own.keys2)
+returns-in_default c = no_field _ _ _ _ _ _ _ c.expect_field-stands.ensures c.in_default.is
 
 pub all_within-requires : goal.all_within-requires
-all_within-requires c = (field_stands _ _ _ _ (let_pass c.expect_field-stands.ensures c.in-Passes.in-Passes-own.keys1)).fits
+all_within-requires c = (field_stands _ _ _ _ (let_pass c.expect_field-stands.ensures c.in-Ok.is)).fits
 
 pub returns-then-all_within : goal.returns-then-all_within
 returns-then-all_within c =
-    all_good _ _ _ _ _ _ _ c.expect_field-stands.ensures c.in-Passes.in-Passes-own.keys1
+    all_good _ _ _ _ _ _ _ c.expect_field-stands.ensures c.in-Ok.is
     (λ k h. is_below _ _ _ k (c.all_within.ensures c.if-all_within.true k h))
 
 pub loop-k-init : goal.loop-k-init
 loop-k-init c =
-    none_checked _ _ _ _ _ _ _ c.expect_field-stands.ensures c.in-Passes.in-Passes-own.keys1
+    none_checked _ _ _ _ _ _ _ c.expect_field-stands.ensures c.in-Ok.is
 
-pub returns-then-limit-number32 : goal.returns-then-limit-number32
-returns-then-limit-number32 c =
-    let is = c.bad_word.ensures in
-    bad_entry c.loop-k.invariant (search rules) _ (is ∙ is_called _ _ _ _ (search rules)) (rw is (bad_word_refuses _ _))
+pub returns-then-limit-from : goal.returns-then-limit-from
+returns-then-limit-from c =
+    bad_entry c.loop-k.invariant (search rules) _ (rw c.bad_word.ensures (is_called _ _ _ _ (search rules))) refl
 
 pub loop-k-preserved : goal.loop-k-preserved
 loop-k-preserved c = good_entry c.loop-k.invariant (search rules) (is_below _ _ _ _ (search rules))

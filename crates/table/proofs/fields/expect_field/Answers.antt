@@ -7,8 +7,8 @@ pub returns-then-stands : goal.returns-then-stands
 returns-then-stands c = stands_as_expected _ _ _ _ (sym c.stands.ensures ∙ c.if-stands.true)
 
 pub returns-in_default : goal.returns-in_default
-returns-in_default c = runs_out _ _ _ _ _ c.read_field-field.ensures c.in_default.in_default-own.keys2
+returns-in_default c = runs_out _ _ _ _ _ c.read_field-field.ensures c.in_default.is
 
 pub returns : goal.returns
 returns c =
-    another_field _ _ _ _ _ c.read_field-field.ensures (sym c.stands.ensures ∙ c.if-stands.false) c.in-Whole.in-Whole-own.keys1
+    another_field _ _ _ _ _ c.read_field-field.ensures (sym c.stands.ensures ∙ c.if-stands.false) c.in-Some.is

@@ -1,0 +1,6 @@
+-- A call gives the number that stands there.
+use borrow.Author.Rules.{rules}
+use Rattle.moves.proofs.rounds.worst_start.Goals as goal
+
+pub returns : goal.returns
+returns c = c.worst.ensures _ (λ i sum in_set post. search rules)
