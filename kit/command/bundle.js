@@ -43,7 +43,8 @@ const pairs = (list) => list.split(',').map((each) => each.trim()).filter(Boolea
 const pattern = (list) => pairs(list).map(([name, own]) => `${name}: ${own}`).join(', ');
 
 /**
- * A module as a function whose value has its exports.
+ * A module as a function whose value has its exports. The bracket before the word `function` says that it is called soon: what runs it then
+ * compiles it as it first reads it, and not in a second reading, which takes a third of the command's start.
  * @param {string} source @param {(from: string) => string} valueOf @param {(from: string) => string} laterOf
  */
 function wrap(source, valueOf, laterOf) {
@@ -67,7 +68,7 @@ function wrap(source, valueOf, laterOf) {
     .replaceAll('import.meta.url', 'here');
   const odd = /^(import|export)\b(?!:).*$/m.exec(body); // a name of a command may be such a word
   if (odd) throw new Error(`not understood: ${odd[0]}`);
-  return `once(() => {\n${body}\nreturn { ${exported.join(', ')} };\n})`;
+  return `once((function () {\n${body}\nreturn { ${exported.join(', ')} };\n}))`;
 }
 
 const ONCE = 'const once = (make) => {\nlet made;\nreturn () => made ??= make();\n};';
@@ -140,7 +141,7 @@ export function bundleInParts(entry, folder) {
     const part = new Gathered(main.done);
     const value = part.add(file, () => { throw new Error(`${file}: it is loaded later, and loads later itself`); });
     const given = `({ ${['here', ...part.needed].join(', ')} })`;
-    const script = `'use strict';\nmodule.exports = ${given} => {\n${ONCE}\n${part.lines.join('\n')}\nreturn ${value}();\n};`;
+    const script = `'use strict';\nmodule.exports = (function ${given} {\n${ONCE}\n${part.lines.join('\n')}\nreturn ${value}();\n});`;
     return /** @type {[string, string]} */ ([nameOf(file), script]);
   });
   return { start, later };

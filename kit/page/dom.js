@@ -54,14 +54,25 @@ export function empty(...ids) {
 }
 
 /**
- * A picture in the place of what the element shows. One that was shrunk to its room is shown in full size, so that its words can be read.
+ * The picture that each element shows, and what it was made of.
+ * @type {WeakMap<Element, {svg: string, scale: number, picture: Element}>}
+ */
+const SHOWN = new WeakMap();
+
+/**
+ * A picture in the place of what the element shows. One that was shrunk to its room is shown in full size, so that its words can be read. One
+ * that is there already stays: to lay it out again is most of what a picture costs.
  * @param {Element} element @param {string} svg @param {number} [scale]  so many times as large as it was drawn
  */
 export function show(element, svg, scale = 1) {
-  const parsed = /** @type {any} */ (new DOMParser().parseFromString(svg, 'image/svg+xml').documentElement);
-  const picture = document.importNode(parsed, true);
-  picture.style.width = `${Math.max(scale * parsed.width.baseVal.value, parsed.viewBox.baseVal.width)}px`;
-  element.replaceChildren(picture);
+  const shown = SHOWN.get(element);
+  if (shown?.svg !== svg || shown.scale !== scale || element.firstChild !== shown.picture) {
+    const parsed = /** @type {any} */ (new DOMParser().parseFromString(svg, 'image/svg+xml').documentElement);
+    const picture = document.importNode(parsed, true);
+    picture.style.width = `${Math.max(scale * parsed.width.baseVal.value, parsed.viewBox.baseVal.width)}px`;
+    element.replaceChildren(picture);
+    SHOWN.set(element, { svg, scale, picture });
+  }
   revealLit(element);
 }
 

@@ -9,7 +9,7 @@ import { PANES, noAnswers } from './workspace.js';
 /** @typedef {{answers: Answers, subject: import('./workspace.js').Subject|null, said: import('./answer.js').Said}} Shown */
 
 /** @param {Texts} one @param {Texts} other */
-const same = (one, other) => PANES.every((pane) => one[pane] === other[pane]);
+export const same = (one, other) => PANES.every((pane) => one[pane] === other[pane]);
 
 export class Held {
   /** @type {Shown} */

@@ -6,7 +6,7 @@ import { keepRoom } from './answer-room.js';
 import { byId, fill, inTwoColumns } from './dom.js';
 import { draw, drawWay } from './drawing.js';
 import { Editor } from './editor.js';
-import { Held } from './held.js';
+import { Held, same } from './held.js';
 import { tooLong } from './limits.js';
 import { LivePanel } from './live.js';
 import { Making } from './making.js';
@@ -25,6 +25,7 @@ import { PANES, ask } from './workspace.js';
 /** @typedef {import('../types.js').Library} Library */
 /** @typedef {import('./workspace.js').Pane} Pane */
 /** @typedef {import('./workspace.js').Texts} Texts */
+/** @typedef {import('./workspace.js').Answers} Answers */
 /** @typedef {import('./workspace.js').Spot} Spot */
 /** @typedef {import('../examples.js').Example & {text: string}} Sample */
 
@@ -138,15 +139,15 @@ export class Page {
   }
 
   /**
-   * Texts that came of those that are there.
-   * @param {Texts} texts @param {Pane} pane
+   * Texts that came of those that are there, with the answers about them.
+   * @param {Texts} texts @param {Pane} pane @param {Answers} answers
    */
-  change(texts, pane) {
-    this.put(texts, pane, changed(this.title));
+  change(texts, pane, answers) {
+    this.put(texts, pane, changed(this.title), answers);
   }
 
-  /** @param {Texts} texts @param {Pane} pane @param {string} title */
-  put(texts, pane, title) {
+  /** @param {Texts} texts @param {Pane} pane @param {string} title @param {Answers|null} [answers]  if the library was asked about them */
+  put(texts, pane, title, answers = null) {
     this.later('link', LINK_LATER, () => carry(this));
     this.title = title;
     byId('undo').hidden = this.undo.length === 0;
@@ -157,7 +158,7 @@ export class Page {
     this.show = null;
     this.turnTo(pane);
     this.rooms.forget();
-    this.answer();
+    this.answer(answers);
     requestAnimationFrame(() => this.#revealWrong());
   }
 
@@ -197,13 +198,16 @@ export class Page {
     this.answer();
   }
 
-  /** Asks the library about all texts, and shows what it says. */
-  answer() {
+  /**
+   * Asks the library about all texts, and shows what it says.
+   * @param {Answers|null} [asked]  taken where they are about the same texts: no text is asked about twice
+   */
+  answer(asked = null) {
     const { texts } = this;
     if (this.#forget()) closeOld();
     const long = tooLong(texts);
     if (long) return this.unanswered([long]);
-    const answers = ask(this.library, texts);
+    const answers = asked && same(asked.texts, texts) ? asked : ask(this.library, texts);
     const subject = answers.reading.mistakes.length > 0 ? null : subjectOf(answers, this.pane);
     const said = sayAnswer(answers, subject, this.making.tells(texts));
     this.#held.hold({ answers, subject, said });

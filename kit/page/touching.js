@@ -82,14 +82,15 @@ export class Touching {
     const { page, begun } = this;
     if (!begun || !touched) return;
     const texts = { ...begun.texts, [begun.held.pane]: touched.text };
-    const { stimulus } = ask(page.library, texts);
+    const answers = ask(page.library, texts);
+    const { stimulus } = answers;
     const refused = stimulus?.trace.refused;
     if (!stimulus || refused) {
       this.refused = refused ? `${refusalLine(refused)}. ${stimulus?.explanation?.sentences[0] ?? ''}` : 'That is no stimulus.';
       return;
     }
     this.refused = '';
-    page.change(texts, begun.held.pane);
+    page.change(texts, begun.held.pane, answers);
     page.step = { selected: touched.number, stepping: false };
   }
 

@@ -13,8 +13,9 @@ function hide(rooms) {
   for (const room of document.querySelectorAll(rooms)) room.toggleAttribute('hidden', true);
 }
 
-/** What was made of texts that are no longer there. */
+/** What was made of texts that are no longer there, and what was spoken of them: the next answer is spoken a little later. */
 export function closeOld() {
+  empty('spoken');
   fill(byId('tool-answer'));
   fill(byId('paper'));
   closeMenu(byId('save'));

@@ -1,6 +1,6 @@
 import assert from 'node:assert/strict';
 import { spawn as start } from 'node:child_process';
-import { appendFileSync, mkdtempSync, readFileSync, readdirSync, rmSync, truncateSync, writeFileSync } from 'node:fs';
+import { appendFileSync, mkdtempSync, readFileSync, readdirSync, readlinkSync, realpathSync, rmSync, truncateSync, writeFileSync } from 'node:fs';
 import { tmpdir } from 'node:os';
 import { join } from 'node:path';
 import { test } from 'node:test';
@@ -188,6 +188,19 @@ function started(args) {
   return { child, said, end: new Promise((resolve) => { child.on('close', resolve); }) };
 }
 
+/** Until a program has read so many bytes of a file, however long it takes to start: the system knows where it stands in each open file. */
+async function untilRead({ pid }, file, length) {
+  const stands = (/** @type {string} */ open) => {
+    try {
+      return readlinkSync(`/proc/${pid}/fd/${open}`) === realpathSync(file)
+        && readFileSync(`/proc/${pid}/fdinfo/${open}`, 'utf8').startsWith(`pos:\t${length}\n`);
+    } catch {
+      return false; // closed meanwhile
+    }
+  };
+  for (let k = 0; k < 600 && !readdirSync(`/proc/${pid}/fd`).some(stands); k++) await sleep(50);
+}
+
 test('from a pipe: accepted when it is closed, and refused at once while it is open', () => inFolder(async (path) => {
   assert.match(spawn(['watch', path('table.bin'), '-', '--plain'], { input: LONG }).out, /^accepted end=16000 cycles=8000 /);
   const { child, said, end } = started(['watch', path('table.bin'), '-', '--plain']);
@@ -217,7 +230,7 @@ test('a file that grows is refused while it grows; one that becomes shorter cann
   assert.deepEqual([await growing.end, growing.said.out], [1, 'refused 28 at 76\n']);
   writeFileSync(journal, JOURNAL.subarray(0, 50));
   const shorter = started(['watch', path('table.bin'), journal, '--follow']);
-  await sleep(400);
+  await untilRead(shorter.child, journal, 50);
   truncateSync(journal, 20);
   assert.equal(await shorter.end, 2);
   assert.match(shorter.said.err, /journal\.bin: it has become shorter while it was followed/);

@@ -50,6 +50,9 @@ async function printedWords(tab) {
   return execFileSync('pdftotext', ['-raw', '-', '-'], { input: Buffer.from(data, 'base64'), encoding: 'utf8' }).replace(/\s+/g, ' ');
 }
 
+/** Until the answer was spoken, which comes a little after it is seen. */
+const untilSpoken = (tab) => tab.until("document.getElementById('spoken').textContent !== ''");
+
 /** A mistake that is typed behind these words of a pane. */
 const TYPED = [
   { pane: 'journal', behind: 'krossvil journal', types: 'x' },
@@ -97,6 +100,7 @@ test('beside a mistake nothing old is seen, spoken, printed or saved, and a sent
     const tab = await open(t, 'example=changed-verdict', size);
     const said = await tab.value(SAID);
     assert.ok(said.length > 6 && said.includes(expected('changed-verdict')));
+    await untilSpoken(tab);
     await caretBehind(tab, 'journal', 'input no_train');
     await tab.type('x');
     assert.deepEqual(await tab.value(LEFT), ['#automaton svg', '#reaction-picture svg', '#reaction-answer strong']);
@@ -122,6 +126,7 @@ test('nor beside a table that is refused; what the reader chose is there again w
   await tab.click('#reaction-states input');
   const chosen = () => tab.value("[...document.querySelectorAll('#reaction-form input')].map((each) => each.checked).join()");
   const [sets, said, before] = [await chosen(), await tab.value(SAID), await tab.value(PLACES)];
+  await untilSpoken(tab);
   await caretBehind(tab, 'table', 'cycle   3');
   await tab.key('Backspace');
   await tab.type('0');
