@@ -1,13 +1,19 @@
 // The journal check: docs/RULES.md, refusals 19 to 28.
 use crate::print;
 use journal::{Numbers, Refusal};
-use spelling::Unclear;
+use spelling::{Bytes, Unclear};
 
 // Four lines, as in `tables`: with the check and what shows its answer handed over as closures they are no plainer.
-pub fn check(rt: &HostRuntime, case: &[u8], table: &[u8], records: &[u8]) -> Result<(), Unclear> {
-    let records = spelling::of_case(case, records)?;
+pub fn check(
+    rt: &HostRuntime,
+    case: &[u8],
+    table: &[u8],
+    records: &[u8],
+    scratch: &mut Bytes,
+) -> Result<(), Unclear> {
+    spelling::of_case(case, records, scratch)?;
     print::text(rt, spelling::name(case));
-    show(rt, journal::check(table, &records));
+    show(rt, journal::check(table, scratch));
     Ok(())
 }
 

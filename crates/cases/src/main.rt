@@ -37,20 +37,22 @@ fn run(rt: &HostRuntime, text: &[u8]) {
         table: Bytes::new(),
         records: Bytes::new(),
     };
+    // What a line spells, made once and lent to each.
+    let mut scratch = Bytes::new();
     for line in Lines::new(text) {
-        run_line(rt, line, &mut given);
+        run_line(rt, line, &mut given, &mut scratch);
     }
 }
 
-fn run_line(rt: &HostRuntime, line: &[u8], given: &mut Given) {
+fn run_line(rt: &HostRuntime, line: &[u8], given: &mut Given, scratch: &mut Bytes) {
     if line.is_empty() || line.starts_with(b"#") {
         return;
     }
     let (word, rest) = split_word(line);
     let done = match word {
-        b"table" => set(rest, &mut given.table),
-        b"records" => set(rest, &mut given.records),
-        _ => run_case(rt, word, rest, given),
+        b"table" => set(rest, &mut given.table, scratch),
+        b"records" => set(rest, &mut given.records, scratch),
+        _ => run_case(rt, word, rest, given, scratch),
     };
     if done.is_err() {
         print::text(rt, b"not understood: ");
@@ -60,34 +62,40 @@ fn run_line(rt: &HostRuntime, line: &[u8], given: &mut Given) {
 }
 
 // The bytes of the line, in place of others. Of a line that cannot be understood those that were spelled come over the first of the others.
-fn set(line: &[u8], bytes: &mut Bytes) -> Result<(), Unclear> {
-    let mut spelled = Bytes::new();
-    let done = spelling::add(line, &mut spelled);
+fn set(line: &[u8], bytes: &mut Bytes, scratch: &mut Bytes) -> Result<(), Unclear> {
+    scratch.clear();
+    let done = spelling::add(line, scratch);
     if done.is_ok() {
-        *bytes = spelled;
-        return done;
+        bytes.clear();
+        return bytes.try_extend_from_slice(scratch).map_err(|_| Unclear);
     }
-    for (byte, &new) in bytes.iter_mut().zip(spelled.iter()) {
+    for (byte, &new) in bytes.iter_mut().zip(scratch.iter()) {
         *byte = new;
     }
     done
 }
 
-fn run_case(rt: &HostRuntime, word: &[u8], line: &[u8], given: &Given) -> Result<(), Unclear> {
+fn run_case(
+    rt: &HostRuntime,
+    word: &[u8],
+    line: &[u8],
+    given: &Given,
+    scratch: &mut Bytes,
+) -> Result<(), Unclear> {
     match word {
         b"=" => {
             print::text(rt, line);
             print::end_line(rt);
             Ok(())
         }
-        b"check-table" => tables::check(rt, line, &given.table),
+        b"check-table" => tables::check(rt, line, &given.table, scratch),
         b"check-cuts" => {
             tables::check_cuts(rt, &given.table);
             Ok(())
         }
-        b"check-journal" => journals::check(rt, line, &given.table, &given.records),
-        b"run" => stimuli::run(rt, line, &given.table, &given.records),
-        b"run-and-check" => stimuli::run_and_check(rt, line, &given.table, &given.records),
+        b"check-journal" => journals::check(rt, line, &given.table, &given.records, scratch),
+        b"run" => stimuli::run(rt, line, &given.table, &given.records, scratch),
+        b"run-and-check" => stimuli::run_and_check(rt, line, &given.table, &given.records, scratch),
         b"react" => reactions::react(rt, line, &given.table),
         _ => Err(Unclear),
     }

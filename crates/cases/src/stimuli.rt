@@ -1,14 +1,20 @@
 // The runtime: docs/RULES.md. The same refusals, the journal that it writes, and the bytes that it leaves.
 use crate::{journals, print};
 use runtime::Refusal;
-use spelling::Unclear;
 use spelling::words::{number, split_word};
+use spelling::{Bytes, Unclear};
 
 // One byte more than a journal may have.
 const ROOM: usize = 65537;
 
-pub fn run(rt: &HostRuntime, line: &[u8], table: &[u8], records: &[u8]) -> Result<(), Unclear> {
-    run_into(rt, line, table, records, &mut [0u8; ROOM])?;
+pub fn run(
+    rt: &HostRuntime,
+    line: &[u8],
+    table: &[u8],
+    records: &[u8],
+    scratch: &mut Bytes,
+) -> Result<(), Unclear> {
+    run_into(rt, line, table, records, scratch, &mut [0u8; ROOM])?;
     Ok(())
 }
 
@@ -18,9 +24,10 @@ pub fn run_and_check(
     line: &[u8],
     table: &[u8],
     records: &[u8],
+    scratch: &mut Bytes,
 ) -> Result<(), Unclear> {
     let mut journal = [0u8; ROOM];
-    let written = run_into(rt, line, table, records, &mut journal)?;
+    let written = run_into(rt, line, table, records, scratch, &mut journal)?;
     print::text(rt, b"its journal");
     journals::show(rt, journal::check(table, written));
     Ok(())
@@ -32,13 +39,14 @@ fn run_into<'a>(
     line: &[u8],
     table: &[u8],
     records: &[u8],
+    scratch: &mut Bytes,
     journal: &'a mut [u8; ROOM],
 ) -> Result<&'a [u8], Unclear> {
     let (room, case) = split_word(line);
     let room = number(room)?.min(ROOM);
-    let stimulus = spelling::of_case(case, records)?;
+    spelling::of_case(case, records, scratch)?;
     print::text(rt, spelling::name(case));
-    let length = show(rt, runtime::run(table, &stimulus, &mut journal[..room]));
+    let length = show(rt, runtime::run(table, scratch, &mut journal[..room]));
     Ok(&journal[..length.min(ROOM)])
 }
 

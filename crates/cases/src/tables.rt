@@ -1,12 +1,17 @@
 // The table check: docs/RULES.md, "Bytes", and refusals 1 to 8 and 11 to 13.
 use crate::print;
-use spelling::Unclear;
+use spelling::{Bytes, Unclear};
 use table::Refusal;
 
-pub fn check(rt: &HostRuntime, case: &[u8], table: &[u8]) -> Result<(), Unclear> {
-    let table = spelling::of_case(case, table)?;
+pub fn check(
+    rt: &HostRuntime,
+    case: &[u8],
+    table: &[u8],
+    scratch: &mut Bytes,
+) -> Result<(), Unclear> {
+    spelling::of_case(case, table, scratch)?;
     print::text(rt, spelling::name(case));
-    show(rt, table::check(&table));
+    show(rt, table::check(scratch));
     Ok(())
 }
 

@@ -18,6 +18,9 @@ const STRIDE: usize = 100;
 // As many bytes of a name are read: no path is longer.
 const LONGEST_PATH: usize = 4096;
 
+// One byte more than a journal may have, so that a longer one is told from it.
+type Records = ArrayVec<u8, 65537>;
+
 fn print(rt: &HostRuntime, text: &[u8]) {
     let _ = rt.stdout().write_all(text);
 }
@@ -51,24 +54,26 @@ fn open<R: Files>(rt: &R, name: &[u8]) -> io::Result<R::File> {
     }
 }
 
-// The file's first bytes, as many as there is room for. One more is read, so that a file which cannot be read there counts as empty.
+// Puts the file's first bytes into empty `bytes`, as many as there is room for. One more is read, so that a file which cannot be read
+// there counts as empty.
 // As in `checkjournal`, but for the name: no library that both stand on reads files, and one more for these lines is no plainer.
-fn read_first<const N: usize>(rt: &impl Files, name: &[u8]) -> io::Result<ArrayVec<u8, N>> {
+fn read_first<const N: usize>(
+    rt: &impl Files,
+    name: &[u8],
+    bytes: &mut ArrayVec<u8, N>,
+) -> io::Result<()> {
     let mut file = open(rt, name)?;
-    let mut bytes = ArrayVec::new();
-    io::copy(&mut Read::by_ref(&mut file).take(N as u64), &mut bytes)?;
+    io::copy(&mut Read::by_ref(&mut file).take(N as u64), bytes)?;
     file.read(&mut [0u8; 1])?;
-    Ok(bytes)
+    Ok(())
 }
 
-// A file that can't be opened or read counts as empty, and the reason is said on standard error.
-fn read_file<const N: usize>(rt: &HostRuntime, name: &[u8]) -> ArrayVec<u8, N> {
-    match read_first(rt, name) {
-        Ok(bytes) => bytes,
-        Err(error) => {
-            tell_failed(rt, name, &error);
-            ArrayVec::new()
-        }
+// The file's bytes, in place of others. A file that can't be opened or read counts as empty, and the reason is said on standard error.
+fn read_file<const N: usize>(rt: &HostRuntime, name: &[u8], bytes: &mut ArrayVec<u8, N>) {
+    bytes.clear();
+    if let Err(error) = read_first(rt, name, bytes) {
+        tell_failed(rt, name, &error);
+        bytes.clear();
     }
 }
 
@@ -84,20 +89,19 @@ fn print_sheet(rt: &HostRuntime, report: Report) {
     print(rt, &text[..size]);
 }
 
-fn add_file(rt: &HostRuntime, report: &mut Report, name: &[u8]) {
-    // One byte more than a journal may have, so that a longer one is told from it.
-    let records = read_file::<65537>(rt, name);
-    if let Err(refusal) = report.add(&records) {
+fn add_file(rt: &HostRuntime, report: &mut Report, name: &[u8], records: &mut Records) {
+    read_file(rt, name, records);
+    if let Err(refusal) = report.add(records) {
         print_refused(rt, name, refusal);
     }
 }
 
 // A name that is longer than any path is cut, and opens no file.
-fn add_argument(rt: &HostRuntime, report: &mut Report, i: usize) {
+fn add_argument(rt: &HostRuntime, report: &mut Report, i: usize, records: &mut Records) {
     let mut path = [0u8; LONGEST_PATH];
     match rt.arg(i, &mut path) {
-        Ok(size) => add_file(rt, report, &path[..size]),
-        Err(_) => add_file(rt, report, &path),
+        Ok(size) => add_file(rt, report, &path[..size], records),
+        Err(_) => add_file(rt, report, &path, records),
     }
 }
 
@@ -114,14 +118,17 @@ fn tell_progress(rt: &HostRuntime, done: usize, all: usize) {
 }
 
 fn add_all(rt: &HostRuntime, report: &mut Report, all: usize) {
+    // Made once and lent to each file.
+    let mut records = Records::new();
     for k in 0..all {
-        add_argument(rt, report, k + 1);
+        add_argument(rt, report, k + 1, &mut records);
         tell_progress(rt, k + 1, all);
     }
 }
 
 fn print_report(rt: &HostRuntime, all: usize) {
-    let table = read_file::<65536>(rt, b"table.bin");
+    let mut table = ArrayVec::<u8, 65536>::new();
+    read_file(rt, b"table.bin", &mut table);
     let Begun { answer, mut report } = report::begin(&table);
     if let Err(refusal) = answer {
         print_refused(rt, b"table.bin", refusal);

@@ -24,7 +24,7 @@ use Rattle.events.specs.After.{taken_after, after_turn}
 abbrev none_counted : Machine → Progress
 none_counted m = record { machine = m; ticks = 0; moves = 0; left = 0 }
 
-either_way : (r : Record) (m : Machine) → Ok (taken_after m r) ≡ after_turn (turned r (Ok m))
+pub either_way : (r : Record) (m : Machine) → Ok (taken_after m r) ≡ after_turn (turned r (Ok m))
 unfolding after_turn
 either_way r m = go (is_end r)
   where

@@ -1,4 +1,5 @@
 pub mod Running
 pub mod Entry
+pub mod OneMore
 pub mod Accepted
 pub mod Ahead

@@ -1,4 +1,5 @@
 pub mod Answer
 pub mod Check
 pub mod Finished
+pub mod Progress
 pub mod Accepted

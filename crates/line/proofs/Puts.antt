@@ -1,13 +1,31 @@
 -- Writing into a buffer: a text copied into its part from `at` on, and texts one after the other.
 use mathlib.Core.Path.{◌≡◌, refl, sym, ap, ◌∙◌}
 use mathlib.Core.List.{List, [], ◌∷◌, ◌++◌, append_assoc, append-nil}
-use Prim.Native.Nat.{ℕ, ◌+◌, ◌≤◌}
+use Prim.Native.Nat.{ℕ, ◌+◌, ◌-◌, ◌≤◌}
 use Prim.Native.String.{String}
 use native.Mathlib.Omega.{arith}
-use lib.ListN.{length, take, drop, length-append, length-take}
-use lib.Seq.{take_at, drop_at, drop-drop}
+use lib.ListN.{length, take, drop, length-append, length-take, length-drop, drop_of_length-le}
+use lib.Seq.{take-length, take_all, take_at, drop_at, drop-drop}
 use Rattle.io.specs.Counts.{IsPrefixLen}
 use Rattle.line.specs.Line.{text, decimal, named, line_with, length_names, last_names, Puts}
+
+-- The part that is lent to the copy is all that is left of the buffer.
+pub puts_copied : (text before : List ℕ) (at : ℕ) → at + length text ≤ length before → (part : List ℕ) (count : ℕ) → count ≡ length text →
+    part ≡ take (length text) text ++ drop (length text) (take (length before - at) (drop at before)) →
+    Puts text before at (take at before ++ (part ++ drop (length before - at) (drop at before))) (at + count)
+puts_copied text before at room part count counted is =
+    let left : length (drop at before) ≤ length before - at = rw length-drop (omega arith) in
+    let all = take_all (length before - at) (drop at before) left in
+    let none = drop_of_length-le (drop at before) left in
+    let front : length (take at before ++ text) ≡ at + count = simp (length-append, length-take) (omega arith) in
+    let rest = drop (length text) (drop at before) in
+    let after : take at before ++ (part ++ drop (length before - at) (drop at before)) ≡ take at before ++ text ++ rest =
+    rw (none, is, all, append-nil, take-length) (simp append_assoc) in
+    record {
+      written = rw after (take_at (take at before ++ text) rest (at + count) front);
+      rest = rw after (drop_at (take at before ++ text) rest (at + count) front ∙ rw counted (drop-drop (length text) at before));
+      ends = omega arith;
+    }
 
 -- The text alone is lent to the copy, of as many bytes: what is before it and after it stays.
 pub puts_placed : (text before : List ℕ) (at count : ℕ) → count ≡ length text → at + length text ≤ length before →
@@ -37,6 +55,14 @@ pub puts_counts : {bytes before after : List ℕ} {end : ℕ} → Puts bytes bef
 puts_counts {after = after} {end = end} p =
     let long : end ≡ length (take end after) = rw p.written (omega arith) in
     (omega (arith, length-take end after), long)
+
+-- A text that fits into a buffer leaves its length.
+pub puts_length : {bytes before : List ℕ} {at : ℕ} {after : List ℕ} {end : ℕ} →
+    Puts bytes before at after end → at + length bytes ≤ length before → length after ≡ length before
+puts_length {bytes} {before} {at} {after} {end} p room =
+    let front = ap length p.written ∙ length-append (take at before) bytes in
+    let back = ap length p.rest in
+    omega (arith, length-take end after, length-take at before, length-drop end after, length-drop end before, p.ends)
 
 -- ---- Numbers after their names, one after the other, and the line's end
 

@@ -32,6 +32,10 @@ module _ (s : List ℕ) (P A n : ℕ) (sums path : List ℕ) {x : Judged} (is : 
         let e = err_from_is_err_and r same in
         rw (j, e.1, e.2)
 
+    pub passed_up : Err refusal ≡ moves_of s P A n (length sums) (length path)
+    unfolding moves_of
+    passed_up = let j = sym is ∙ h in rw j refl
+
     pub sums_kept : sums ≡ sums_after s P A n sums (length path)
     unfolding sums_after
     sums_kept = let j = sym is ∙ h in rw j

@@ -203,6 +203,11 @@ pub fn react(
     ensures sums { sums.new ≡ sums_after table.now states inputs moves sums.old (length path.old) }
     ensures path { path.new ≡ path_after table.now states inputs moves (length sums.old) path.old }
 {
-    judging::judge(table, states, inputs, moves, sums.len(), path.len())?;
+    let judged = judging::judge(table, states, inputs, moves, sums.len(), path.len());
+    let Ok(()) = judged else {
+        // Not by `?`: a wrong program puts another refusal here, and nothing else.
+        let refusal = judged.unwrap_err();
+        return Err(refusal);
+    };
     Ok(react_judged(table, states, inputs, moves, sums, path))
 }

@@ -11,7 +11,7 @@ ghost use Rattle.arrayvec.specs.ArrayVec.{array_vec_len};
 pub mod words;
 
 use arrayvec::ArrayVec;
-use words::{digit, is_space, number, split_once};
+use words::{is_space, number, read_digit, split_once};
 
 // A line spells at most one byte more than a journal may have.
 pub type Bytes = ArrayVec<u8, 65537>;
@@ -46,7 +46,7 @@ fn put(digits: &[u8], bytes: &mut Bytes, at: usize) -> Result<usize, Unclear>
         let [high, low] = pair else {
             return Err(Unclear);
         };
-        end = put_byte(digit(*high)? * 16 + digit(*low)?, bytes, end)?;
+        end = put_byte(read_digit(*high)? * 16 + read_digit(*low)?, bytes, end)?;
     }
     Ok(end)
 }
@@ -119,13 +119,14 @@ pub fn name(case: &[u8]) -> &[u8] {
     }
 }
 
-// The bytes of a case: its own copy of those that it starts from, changed.
-pub fn of_case(case: &[u8], start: &[u8]) -> Result<Bytes, Unclear> {
-    let mut bytes = Bytes::try_from(start).map_err(|_| Unclear)?;
+// The bytes of a case, in place of others: its own copy of those that it starts from, changed.
+pub fn of_case(case: &[u8], start: &[u8], bytes: &mut Bytes) -> Result<(), Unclear> {
+    bytes.clear();
+    bytes.try_extend_from_slice(start).map_err(|_| Unclear)?;
     if let Some((_, changes)) = split_once(case, b':') {
-        add(changes, &mut bytes)?;
+        add(changes, bytes)?;
     }
-    Ok(bytes)
+    Ok(())
 }
 
 #[cfg(test)]
@@ -134,7 +135,8 @@ mod tests {
 
     #[test]
     fn spells_a_case(rt: HostRuntime) -> Result<(), Unclear> {
-        let bytes = of_case(b"case: 0A 2*0B0C 1=FF 4=end", b"\x01")?;
+        let mut bytes = Bytes::new();
+        of_case(b"case: 0A 2*0B0C 1=FF 4=end", b"\x01", &mut bytes)?;
         assert_eq!(rt; bytes.as_slice(), b"\x01\xff\x0b\x0c".as_slice());
         Ok(())
     }

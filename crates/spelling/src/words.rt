@@ -70,8 +70,15 @@ pub fn split_word(line: &[u8]) -> (&[u8], &[u8])
     }
 }
 
+// The value of a digit, of ten or of sixteen; 16 for any other byte.
+pub fn digit(byte: u8) -> u8
+    ensures { result ≤ 16 }
+{
+    read_digit(byte).unwrap_or(16)
+}
+
 // The value of a digit, of ten or of sixteen.
-pub fn digit(byte: u8) -> Result<u8, Unclear>
+pub fn read_digit(byte: u8) -> Result<u8, Unclear>
     ensures { IfOk result (λ value. value < 16) }
 {
     match byte {
@@ -90,7 +97,7 @@ pub fn number(word: &[u8]) -> Result<usize, Unclear>
     }
     let mut value = 0usize;
     for &byte in word {
-        let digit = digit(byte)?;
+        let digit = read_digit(byte)?;
         if digit > 9 || value > 99999999 {
             return Err(Unclear);
         }

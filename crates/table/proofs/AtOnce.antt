@@ -87,6 +87,9 @@ module _ {words : ℕ → ℕ} {n k all : ℕ} (inv : Joined words n k all) wher
       let before : j < k = omega arith in
       turned_within (words j) all (inv.small j before) (inv.members j before)
 
+pub each_within : (words : ℕ → ℕ) (n limit top : ℕ) → Ceiling n words top → top < limit → (k : ℕ) → k < n → words k < limit
+each_within words n limit top over low k h = omega (arith, over k h)
+
 turned_none : turned32 0 ≡ 0
 unfolding turned32
 turned_none = refl

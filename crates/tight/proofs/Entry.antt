@@ -1,5 +1,5 @@
 -- The entry on bytes: what the calculator refuses is passed on, and where it gives a time the bound is in the bytes.
-use mathlib.Core.Path.{◌≡◌, sym, ap, ◌∙◌}
+use mathlib.Core.Path.{◌≡◌, refl, sym, ap, ◌∙◌}
 use mathlib.Core.List.{List}
 use mathlib.Core.Bool.{false}
 use mathlib.Core.Logic.{◌⊎◌, inl, inr}
@@ -33,6 +33,10 @@ module _ (s : List ℕ) (P A : ℕ) where
       let j = sym is ∙ h in
       let e = err_from_is_err_and r same in
       rw (j, e.1, e.2)
+
+  pub passed_up : {a : reaction.ReactionAnswer} {refusal : Refusal} → a ≡ react_of s P A → a ≡ Err refusal → Err refusal ≡ react_tight_of s P A
+  unfolding react_tight_of
+  passed_up is h = let j = sym is ∙ h in rw j refl
 
   module _ (time target : ℕ) (e : react_of s P A ≡ reaction.Reacts time target) where
     r : Reacted s P A time target

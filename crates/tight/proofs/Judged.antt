@@ -24,6 +24,10 @@ module _ (s : List ℕ) (P A n : ℕ) {x : Judged} (is : x ≡ judge_of s P A n 
       let e = err_from_is_err_and r same in
       rw (j, e.1, e.2)
 
+  pub passed_up : {refusal : Refusal} → x ≡ Err refusal → Err refusal ≡ tight_moves_of s P A n
+  unfolding tight_moves_of
+  passed_up h = let j = sym is ∙ h in rw j refl
+
   pub reacts : x ≡ Ok tt → {r : Tight} → r ≡ times_over (table_in s) P A n → Ok r ≡ tight_moves_of s P A n
   unfolding tight_moves_of
   reacts h e = let j = sym is ∙ h in rw (j, e)

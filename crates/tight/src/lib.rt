@@ -41,7 +41,13 @@ fn tighten(time: u32, bound: u32) -> u32
 pub fn react(table: &[u8], states: u32, inputs: u32) -> Result<Tight, Refusal>
     ensures { result ≡ react_tight_of table.now states inputs }
 {
-    let Reaction { time, target } = reaction::react(table, states, inputs)?;
+    let reacted = reaction::react(table, states, inputs);
+    let Ok(found) = reacted else {
+        // Not by `?`: a wrong program puts another refusal here, and nothing else.
+        let refusal = reacted.unwrap_err();
+        return Err(refusal);
+    };
+    let Reaction { time, target } = found;
     let tight = tighten(time, number32(table, 10));
     Ok(Tight {
         time,

@@ -121,6 +121,11 @@ fn react_judged(table: &[u8], states: u32, inputs: u32, moves: u32) -> Tight
 pub fn react(table: &[u8], states: u32, inputs: u32, moves: u32) -> Result<Tight, Refusal>
     ensures { result ≡ tight_moves_of table.now states inputs moves }
 {
-    judge(table, states, inputs, moves, ROOM_FOR_SUMS, ROOM_FOR_PATH)?;
+    let judged = judge(table, states, inputs, moves, ROOM_FOR_SUMS, ROOM_FOR_PATH);
+    let Ok(()) = judged else {
+        // Not by `?`: a wrong program puts another refusal here, and nothing else.
+        let refusal = judged.unwrap_err();
+        return Err(refusal);
+    };
     Ok(react_judged(table, states, inputs, moves))
 }

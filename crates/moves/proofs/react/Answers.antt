@@ -1,6 +1,6 @@
 -- What the judge turns down is passed up.
-use Rattle.moves.proofs.Judges.{turned_down}
+use Rattle.moves.proofs.Judges.{passed_up}
 use Rattle.moves.proofs.react.Goals as goal
 
-pub returns-in_err-judge-clause-is : goal.returns-in_err-judge-clause-is
-returns-in_err-judge-clause-is c = turned_down _ _ _ _ _ _ c.judge.ensures c.in_err-judge.was _ c.from_residual.ensures.1
+pub returns-in_default-clause-is : goal.returns-in_default-clause-is
+returns-in_default-clause-is c = passed_up _ _ _ _ _ _ c.judge-judged.ensures c.unwrap_err-refusal.ensures

@@ -1,9 +1,9 @@
 -- What the judge turns down is passed on.
-use Rattle.tight.proofs.Judged.{turned_down, reacts}
+use Rattle.tight.proofs.Judged.{passed_up, reacts}
 use Rattle.tight.proofs.over_moves.react.Goals as goal
 
-pub returns-in_err-judge : goal.returns-in_err-judge
-returns-in_err-judge c = turned_down _ _ _ _ c.judge.ensures c.in_err-judge.was _ c.from_residual.ensures.1
+pub returns-in_default : goal.returns-in_default
+returns-in_default c = passed_up _ _ _ _ c.judge-judged.ensures c.unwrap_err-refusal.ensures
 
 pub returns : goal.returns
-returns c = reacts _ _ _ _ c.judge.ensures c.in_ok-judge.was c.react_judged.ensures
+returns c = reacts _ _ _ _ c.judge-judged.ensures c.in-Ok.is c.react_judged.ensures
