@@ -69,7 +69,7 @@ const [table, ...journals] = manyFiles();
 const program = installed();
 const command = (files) => () => processorTime(program, ['check', ...files, '--plain']);
 
-/** Measured are 24 to 31. */
+/** Measured are 21 to 29. */
 const START = 35;
 
 test(`the command starts, and checks one journal, in at most ${START} ms more than Node with nothing to do`, () => {
